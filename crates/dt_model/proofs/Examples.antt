@@ -1,0 +1,62 @@
+-- Tensors, lines and runs that the worked examples speak of.
+use Rattle.std.proofs.Common.{ℕ, List, [], ◌∷◌, map, Some, true, false}
+use Rattle.std.specs.Prelude.{codes, ◌^◌, ◌-◌}
+use Rattle.std.specs.List.{filter_map}
+use Rattle.dt_model.specs.declared.declared_tensors.TensorDecl.{TensorDecl}
+use Rattle.dt_model.specs.declared.declared_tensors.Decls.{Decls}
+use Rattle.dt_model.specs.declared.calls.Entry.{Entry}
+use Rattle.dt_model.specs.declared.replies.World.{World}
+use Rattle.dt_model.specs.declared.statements.Stmt.{Stmt}
+use Rattle.dt_model.specs.declared.statements.Expr.{Expr}
+use Rattle.dt_model.specs.Refusals.{WrittenCall, WrittenBatch, WrittenUpdate, WrittenNumber, Whole}
+use Rattle.dt_model.specs.Verdicts.{verdict}
+use Rattle.dt_model.specs.Report.{entry_by}
+
+-- a tensor of one mode
+abbrev pub vector : List ℕ → ℕ → ℕ → TensorDecl
+vector name dim latches = record { name = name; dims = dim ∷ []; formats = record { items = 0 ∷ [] }; latches = latches }
+
+-- a tensor of two modes with one latch
+abbrev pub matrix : List ℕ → ℕ → ℕ → TensorDecl
+matrix name rows columns = record { name = name; dims = rows ∷ columns ∷ []; formats = record { items = 0 ∷ 0 ∷ [] }; latches = 1 }
+
+-- these tensors are declared
+abbrev pub declared : List TensorDecl → Decls
+declared tensors = record { schemas = []; tensors = tensors }
+
+-- `set NAME COORDS VALUE` and `add NAME COORDS VALUE`
+abbrev pub set_of : List ℕ → List ℕ → WrittenNumber → WrittenUpdate
+set_of name coords number = record { adds = false; name = name; coords = coords; number = number }
+
+abbrev pub add_of : List ℕ → List ℕ → WrittenNumber → WrittenUpdate
+add_of name coords number = record { adds = true; name = name; coords = coords; number = number }
+
+abbrev pub set_line : List ℕ → List ℕ → WrittenNumber → WrittenCall
+set_line name coords number = WrittenBatch (set_of name coords number ∷ [])
+
+abbrev pub add_line : List ℕ → List ℕ → WrittenNumber → WrittenCall
+add_line name coords number = WrittenBatch (add_of name coords number ∷ [])
+
+-- the number -n
+abbrev pub minus : ℕ → WrittenNumber
+minus n = Whole (2 ^ 64 - n)
+
+-- a statement; the variables are numbered by their places in the list of names
+abbrev pub statement : List ℕ → List (List ℕ) → List ℕ → Expr → Stmt
+statement name vars left right = record { name = name; vars = record { items = vars }; left = left; right = right }
+
+-- a world with one session, whose script has these lines
+abbrev pub world_of : Decls → List (List (List ℕ × ℕ)) → List WrittenCall → World
+world_of d base lines = record { decls = d; base = base; scripts = map (verdict d) lines ∷ [] }
+
+-- the entries of these turns, in this order
+abbrev pub entries_of : World → List (ℕ × ℕ) → List Entry
+entries_of w turns = filter_map (λ turn. entry_by w (Some turn.0) (Some turn.1)) turns
+
+-- the tensor `v` of dimension 5 with one latch
+abbrev pub v_of_five : Decls
+v_of_five = declared (vector (codes "v") 5 1 ∷ [])
+
+-- a session over `v` alone
+abbrev pub session_over_v : List WrittenCall → World
+session_over_v lines = world_of v_of_five ([] ∷ []) lines

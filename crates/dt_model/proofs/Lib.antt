@@ -1,0 +1,16 @@
+pub mod TestLemmas
+pub mod Rows
+pub mod ExprLaws
+pub mod LatchLemmas
+pub mod NumberWords
+pub mod Growing
+pub mod Histories
+pub mod Lengths
+pub mod ReportWords
+pub mod Reports
+pub mod Examples
+pub mod ExampleValues
+pub mod ExampleStatements
+pub mod ExampleRefusals
+pub mod ExampleLatches
+pub mod ExampleReports

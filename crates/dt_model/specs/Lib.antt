@@ -1,0 +1,12 @@
+pub mod Names
+pub mod JournalValue
+pub mod Contents
+pub mod Tensors
+pub mod Statements
+pub mod Refusals
+pub mod Verdicts
+pub mod Latches
+pub mod Worlds
+pub mod Runs
+pub mod Texts
+pub mod Report

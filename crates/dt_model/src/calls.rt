@@ -1,0 +1,197 @@
+ghost use Rattle.std.specs.Prelude.{◌≡◌, ◌+◌, ◌<◌, ◌≤◌, [], ◌∷◌, ◌++◌, length, slice_get, IfOk};
+ghost use Rattle.std.specs.Option.{option_copied};
+
+use crate::lists::{Listed, NoMemory};
+use crate::places::Coords;
+use crate::statements::Stmt;
+use std::alloc::Global;
+use std::marker::Model;
+
+/// A cell of a tensor. The tensor's number and the coordinates are counted from 0.
+#[derive(Debug, Drop, PartialEq, Eq)]
+pub struct Cell {
+    /// The tensor's number, by order of declaration.
+    pub tensor: u32,
+    /// A coordinate for each mode.
+    pub at: Coords,
+}
+
+/// A change of one cell.
+#[derive(Debug, Drop, PartialEq, Eq)]
+pub enum Update {
+    /// The cell has this value from now on; 0 empties it.
+    Set { cell: Cell, value: u64 },
+    /// The value is added to the cell's, modulo 2^64.
+    Add { cell: Cell, value: u64 },
+}
+
+impl Cell {
+    /// An equal cell. It takes no memory.
+    pub fn copy(&self) -> Cell
+        ensures value { result ≡ self.now }
+    {
+        Cell {
+            tensor: self.tensor,
+            at: self.at.copy(),
+        }
+    }
+}
+
+impl Update {
+    /// An equal update. It takes no memory.
+    pub fn copy(&self) -> Update
+        ensures value { result ≡ self.now }
+    {
+        match self {
+            Update::Set { cell, value } => Update::Set {
+                cell: cell.copy(),
+                value: *value,
+            },
+            Update::Add { cell, value } => Update::Add {
+                cell: cell.copy(),
+                value: *value,
+            },
+        }
+    }
+}
+
+impl Listed<Update> {
+    /// Equal updates, in their order.
+    pub fn copy(&self, alloc: Global) -> Result<Updates, NoMemory>
+        ensures value { IfOk result (λ updates. updates ≡ self.now) }
+    {
+        let mut updates = Listed::new(alloc);
+        for update in self.as_slice() {
+            if updates.push(update.copy()).is_err() {
+                return Err(NoMemory);
+            }
+        }
+        Ok(updates)
+    }
+}
+
+/// The updates of a batch, 1 to 64 in a valid call.
+pub type Updates = Listed<Update>;
+
+/// What a session asks for.
+#[derive(Debug, Drop)]
+pub enum Call {
+    /// The number in a cell.
+    Get(Cell),
+    /// Updates that are made one after the other, with nothing between them.
+    Batch(Updates),
+    /// The nonzeros of a statement's answer.
+    Query(Stmt),
+}
+
+impl Call {
+    /// An equal call.
+    pub fn copy(&self, alloc: Global) -> Result<Call, NoMemory>
+        ensures value { IfOk result (λ call. call ≡ self.now) }
+    {
+        match self {
+            Call::Get(cell) => Ok(Call::Get(cell.copy())),
+            Call::Batch(updates) => Ok(Call::Batch(updates.copy(alloc)?)),
+            Call::Query(stmt) => Ok(Call::Query(stmt.copy(alloc)?)),
+        }
+    }
+}
+
+/// A line of a script. Both numbers are counted from 1.
+#[derive(Clone, Copy, Debug, PartialEq, Eq)]
+pub struct Turn {
+    /// The session.
+    pub session: u32,
+    /// The number of the call in the session's script.
+    pub number: u32,
+}
+
+/// A call that was made, with the turn at which it was.
+#[derive(Debug, Drop)]
+pub struct Entry {
+    /// Whose call it is.
+    pub turn: Turn,
+    /// The call.
+    pub call: Call,
+}
+
+impl Entry {
+    /// An equal entry.
+    pub fn copy(&self, alloc: Global) -> Result<Entry, NoMemory>
+        ensures value { IfOk result (λ entry. entry ≡ self.now) }
+    {
+        Ok(Entry {
+            turn: self.turn,
+            call: self.call.copy(alloc)?,
+        })
+    }
+}
+
+/// The entries of a run in their order, with room that is taken when the journal is made. Contracts
+/// see the entries and the spare room. Places are counted from 0.
+#[derive(Debug, Drop)]
+pub struct Journal {
+    entries: Vec<Entry>,
+    spare: u32,
+}
+
+impl Model for Journal {
+    ghost use Rattle.std.specs.Prelude.{◌+◌, ◌≤◌, vec_len, vec_capacity};
+    ghost use Rattle.dt_model.specs.JournalValue.{JournalValue};
+    ghost use Rattle.dt_model.specs.contracts.statements.Expr as expr;
+    ghost use Rattle.std.specs.Coded.{codes};
+
+    ghost Value = { JournalValue };
+
+    ghost coded = { Prim.hlevel (codes, expr.the_row.coded) };
+
+    ghost view = { λ a. record { entries = a.entries.items; spare = a.spare } };
+
+    ghost invariant = { λ a. vec_len a.entries + a.spare ≤ vec_capacity a.entries };
+}
+
+impl Journal {
+    /// An empty journal with room for n entries.
+    pub fn with_room(alloc: Global, n: u32) -> Result<Journal, NoMemory>
+        ensures entries { IfOk result (λ j. j.entries ≡ []) }
+        ensures spare { IfOk result (λ j. j.spare ≡ n) }
+    {
+        match Vec::with_capacity(alloc, n as usize) {
+            Ok(entries) => Ok(Journal { entries, spare: n }),
+            Err(_) => Err(NoMemory),
+        }
+    }
+
+    /// Puts an entry at the end. It takes no memory.
+    pub fn push(&mut self, entry: Entry)
+        requires spare { 0 < self.old.spare }
+        ensures entries { self.new.entries ≡ self.old.entries ++ entry ∷ [] }
+        ensures spare { self.new.spare + 1 ≡ self.old.spare }
+    {
+        match self.entries.push(entry) {
+            Ok(()) => self.spare -= 1,
+            Err(_) => unreachable!(),
+        }
+    }
+
+    /// How many entries there are.
+    pub fn len(&self) -> usize
+        ensures value { result ≡ length self.now.entries }
+    {
+        self.entries.len()
+    }
+
+    /// The entry at a place. None exactly where the place isn't below the length.
+    pub fn get(&self, place: usize) -> Option<&Entry>
+        ensures value { option_copied result ≡ slice_get self.now.entries place }
+    {
+        self.entries.get(place)
+    }
+
+    /// The entries in order.
+    pub fn as_slice(&self) -> &[Entry]
+        ensures value { result.now ≡ self.now.entries }
+    {
+        self.entries.as_slice()
+    }
+}
