@@ -1,0 +1,5 @@
+pub mod DigitLemmas
+pub mod Cuts
+pub mod SpanLemmas
+pub mod CutLemmas
+pub mod ValueLemmas

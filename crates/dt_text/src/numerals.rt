@@ -1,0 +1,140 @@
+ghost use Rattle.std.specs.Prelude.{◌≡◌, ◌↔◌, ◌≤◌, ◌<◌, ◌^◌, ◌∷◌, ◌++◌, ⊤, min, OnOk, OnErr, Option, Some, None, MatchOption, MatchResult};
+ghost use Rattle.std.specs.Option.{option_map};
+ghost use Rattle.std.specs.Fmt.{decimal};
+ghost use Rattle.dt_model.specs.Texts.{value_word, number_of};
+ghost use Rattle.dt_text.specs.Numerals.{index_in_range, whole_of, positive_in_range, negative_in_range};
+
+use dt_model::NoMemory;
+use itoa::Buffer;
+
+/// Why a word is no index.
+#[derive(Clone, Copy, Debug, PartialEq, Eq)]
+pub enum IndexFault {
+    /// It isn't one or more decimal digits.
+    Form,
+    /// Its number is above 4,294,967,295.
+    Range,
+}
+
+/// Appends a piece. Where no memory is found, the text is as before.
+pub fn append(into: &mut Vec<u8>, piece: &[u8]) -> Result<(), NoMemory>
+    ensures ok { OnOk result (into.new.items ≡ into.old.items ++ piece.now) }
+    ensures err { OnErr result (into.new.items ≡ into.old.items) }
+{
+    match into.extend_from_slice(piece) {
+        Ok(()) => Ok(()),
+        Err(_) => Err(NoMemory),
+    }
+}
+
+fn append_negative(into: &mut Vec<u8>, digits: &[u8]) -> Result<(), NoMemory>
+    ensures ok { OnOk result (into.new.items ≡ into.old.items ++ 45 ∷ digits.now) }
+    ensures err { OnErr result (into.new.items ≡ into.old.items) }
+{
+    if into.push(b'-').is_err() {
+        return Err(NoMemory);
+    }
+    match append(into, digits) {
+        Ok(()) => Ok(()),
+        Err(NoMemory) => {
+            into.pop();
+            Err(NoMemory)
+        }
+    }
+}
+
+/// Appends the text of a value modulo 2^64: below 2^63 its decimal, else the negative decimal of the
+/// value less 2^64. It has no leading zeros, and at most 20 bytes. Where no memory is found, the text
+/// is as before.
+pub fn write_value(value: u64, into: &mut Vec<u8>) -> Result<(), NoMemory>
+    ensures ok { OnOk result (into.new.items ≡ into.old.items ++ value_word value) }
+    ensures err { OnErr result (into.new.items ≡ into.old.items) }
+    // What is written is read back as the value.
+    ensures reads_back { whole_of (value_word value) ≡ Some value }
+{
+    let mut buffer = Buffer::new();
+    if value < 1 << 63 {
+        append(into, buffer.format(value).as_bytes())
+    } else {
+        append_negative(into, buffer.format(value.wrapping_neg()).as_bytes())
+    }
+}
+
+/// Appends a number in decimal, without leading zeros. Where no memory is found, the text is as before.
+pub fn write_number(number: u32, into: &mut Vec<u8>) -> Result<(), NoMemory>
+    ensures ok { OnOk result (into.new.items ≡ into.old.items ++ decimal number) }
+    ensures err { OnErr result (into.new.items ≡ into.old.items) }
+{
+    let mut buffer = Buffer::new();
+    append(into, buffer.format(number).as_bytes())
+}
+
+const MOST: u128 = 1 << 64;
+
+/// The number of a word of one or more decimal digits, or 2^64 where it is more.
+fn digits(word: &[u8]) -> Option<u128>
+    ensures { result ≡ option_map (λ n. min n (2 ^ 64)) (number_of word.now) }
+{
+    if word.is_empty() {
+        return None;
+    }
+    let mut number: u128 = 0;
+    for byte in word {
+        if !byte.is_ascii_digit() {
+            return None;
+        }
+        number = (number * 10 + u128::from(*byte - b'0')).min(MOST);
+    }
+    Some(number)
+}
+
+/// The number of one or more decimal digits; leading zeros are read.
+pub fn read_index(word: &[u8]) -> Result<u32, IndexFault>
+    ensures value { result ≡ index_in_range (number_of word.now) }
+{
+    match digits(word) {
+        None => Err(IndexFault::Form),
+        Some(number) => match u32::try_from(number) {
+            Ok(index) => Ok(index),
+            Err(_) => Err(IndexFault::Range),
+        },
+    }
+}
+
+/// The value modulo 2^64 of an optional sign and one or more decimal digits, from -2^63 to 2^64 - 1;
+/// `None` for any other word and for a number out of range.
+#[tactic(auto, using(crate::proofs::DigitLemmas::capped_positive, crate::proofs::DigitLemmas::capped_negative))]
+pub fn read_whole(word: &[u8]) -> Option<u64>
+    ensures value { result ≡ whole_of word.now }
+{
+    match word {
+        [] => None,
+        [first, rest @ ..] => {
+            if *first == b'-' {
+                negative(digits(rest))
+            } else if *first == b'+' {
+                positive(digits(rest))
+            } else {
+                positive(digits(word))
+            }
+        }
+    }
+}
+
+fn negative(number: Option<u128>) -> Option<u64>
+    ensures { result ≡ negative_in_range number }
+{
+    match number {
+        Some(number) if number <= 1 << 63 => Some((number as u64).wrapping_neg()),
+        _ => None,
+    }
+}
+
+fn positive(number: Option<u128>) -> Option<u64>
+    ensures { result ≡ positive_in_range number }
+{
+    match number {
+        Some(number) if number < MOST => Some(number as u64),
+        _ => None,
+    }
+}
