@@ -1,0 +1,164 @@
+ghost use Rattle.std.specs.Prelude.{◌≡◌, ◌↔◌, ◌⊎◌, ◌+◌, ◌-◌, ◌^◌, ◌<◌, ◌≤◌, ◌++◌, [], min, take, length, Some, None, IsTrue, IsErr, MatchResult, OnOk, OnErr, IfOk, Contains, vec_len, vec_capacity, false, true, if◌then◌else◌, Ok, ◌||◌, nat_lt};
+ghost use Rattle.dt_outside.specs.Faults.{Rose, Appended};
+
+use crate::sinks::{Sink, SinkFailed};
+use dt_model::NoMemory;
+use std::alloc::Global;
+
+/// A sink in memory that takes a few bytes at a time, fails at the listed calls and where no room is
+/// left, and tells what was written.
+#[derive(Drop)]
+pub struct MemSink {
+    bytes: Vec<u8>,
+    spare: usize,
+    most: usize,
+    fails: Vec<u64>,
+    calls: u64,
+    faults: u64,
+    ghost room: { vec_len bytes + spare ≤ vec_capacity bytes },
+    ghost some: { 1 ≤ most },
+}
+
+impl MemSink {
+    /// An empty sink without room that takes at most `most` bytes a call. Calls count from 1, and
+    /// those listed fail.
+    pub fn new(alloc: Global, most: usize, fails: Vec<u64>) -> MemSink
+        requires some { 1 ≤ most }
+        ensures fresh { (result.bytes.items ≡ []) × (result.spare ≡ 0) × (result.calls ≡ 0) × (result.faults ≡ 0) }
+        ensures given { (result.most ≡ most) × (result.fails ≡ fails) }
+    {
+        MemSink {
+            bytes: Vec::new(alloc),
+            spare: 0,
+            most,
+            fails,
+            calls: 0,
+            faults: 0,
+        }
+    }
+
+    /// Makes room for n more bytes, where there is less.
+    pub fn room(&mut self, n: usize) -> Result<(), NoMemory>
+        ensures ok { OnOk result (n ≤ self.new.spare) }
+        ensures err { OnErr result (self.new.spare ≡ self.old.spare) }
+        ensures bytes { self.new.bytes.items ≡ self.old.bytes.items }
+        ensures rest { (self.new.most ≡ self.old.most) × (self.new.fails ≡ self.old.fails) × (self.new.calls ≡ self.old.calls) × (self.new.faults ≡ self.old.faults) }
+    {
+        if n <= self.spare {
+            return Ok(());
+        }
+        match self.bytes.reserve(n) {
+            Ok(()) => {
+                self.spare = n;
+                Ok(())
+            }
+            Err(_) => Err(NoMemory),
+        }
+    }
+
+    /// Whether this call fails.
+    fn is_due_to_fail(&self) -> bool
+        ensures value { IsTrue result ↔ (Contains self.now.fails.items self.now.calls ⊎ (self.now.spare ≡ 0)) }
+    {
+        let listed = self.fails.contains(&self.calls);
+        listed || self.spare == 0
+    }
+
+    /// What was written.
+    pub fn bytes(&self) -> &[u8]
+        ensures value { result.now ≡ self.now.bytes.items }
+    {
+        self.bytes.as_slice()
+    }
+}
+
+impl Sink for MemSink {
+    ghost written = { λ s. Some s.bytes.items };
+
+    ghost faults = { λ s. s.faults };
+
+    fn write_some(&mut self, piece: &[u8]) -> Result<usize, SinkFailed>
+        requires some { 0 < length piece.now }
+        ensures count { IfOk result (λ n. n ≡ min (min (length piece.now) self.old.most) self.old.spare) }
+        ensures bytes { IfOk result (λ n. self.new.bytes.items ≡ self.old.bytes.items ++ take n piece.now) }
+        ensures quiet { OnOk result (self.new.faults ≡ self.old.faults) }
+        ensures risen { OnErr result (Rose self.old.faults self.new.faults) }
+        ensures kept { OnErr result (self.new.bytes.items ≡ self.old.bytes.items) }
+        ensures calls { self.new.calls ≡ min (self.old.calls + 1) (2 ^ 64 - 1) }
+        ensures room { MatchResult result (λ n. self.new.spare + n ≡ self.old.spare) (λ _. self.new.spare ≡ self.old.spare) }
+        ensures given { (self.new.most ≡ self.old.most) × (self.new.fails ≡ self.old.fails) }
+        // It fails exactly at the listed calls and where no room is left.
+        ensures failed { IsErr result ↔ (Contains self.old.fails.items self.new.calls ⊎ (self.old.spare ≡ 0)) }
+    {
+        self.calls = self.calls.saturating_add(1);
+        if self.is_due_to_fail() {
+            self.faults = self.faults.saturating_add(1);
+            return Err(SinkFailed);
+        }
+        let n = piece.len().min(self.most).min(self.spare);
+        match self.bytes.extend_from_slice(&piece[..n]) {
+            Ok(()) => {
+                self.spare -= n;
+                Ok(n)
+            }
+            Err(_) => unreachable!(),
+        }
+    }
+}
+
+/// A sink in memory that never fails: it keeps the first bytes, and tells what was written while it
+/// kept all.
+#[derive(Drop)]
+pub struct SureSink {
+    bytes: Vec<u8>,
+    spare: usize,
+    cut: bool,
+    ghost room: { vec_len bytes + spare ≤ vec_capacity bytes },
+}
+
+impl SureSink {
+    /// An empty sink that keeps the first n bytes.
+    pub fn new(alloc: Global, n: usize) -> Result<SureSink, NoMemory>
+        ensures fresh { IfOk result (λ s. (s.bytes.items ≡ []) × (s.spare ≡ n) × (s.cut ≡ false)) }
+    {
+        match Vec::with_capacity(alloc, n) {
+            Ok(bytes) => Ok(SureSink {
+                bytes,
+                spare: n,
+                cut: false,
+            }),
+            Err(_) => Err(NoMemory),
+        }
+    }
+
+    /// The bytes that were kept.
+    pub fn bytes(&self) -> &[u8]
+        ensures value { result.now ≡ self.now.bytes.items }
+    {
+        self.bytes.as_slice()
+    }
+}
+
+impl Sink for SureSink {
+    ghost written = { λ s. if s.cut then None else Some s.bytes.items };
+
+    ghost faults = { λ s. 0 };
+
+    fn write_some(&mut self, piece: &[u8]) -> Result<usize, SinkFailed>
+        requires some { 0 < length piece.now }
+        ensures all { result ≡ Ok (length piece.now) }
+        ensures bytes { self.new.bytes.items ≡ self.old.bytes.items ++ take self.old.spare piece.now }
+        ensures spare { self.new.spare ≡ self.old.spare - length piece.now }
+        ensures cut { self.new.cut ≡ (self.old.cut || nat_lt self.old.spare (length piece.now)) }
+    {
+        let n = piece.len().min(self.spare);
+        match self.bytes.extend_from_slice(&piece[..n]) {
+            Ok(()) => {
+                self.spare -= n;
+                self.cut = self.cut || n < piece.len();
+                Ok(piece.len())
+            }
+            Err(_) => unreachable!(),
+        }
+    }
+}
