@@ -1,0 +1,115 @@
+-- The cells of one latch, over the calls of a history.
+use Rattle.std.proofs.Common.{◌≡◌, ℕ, ◌+◌, ◌%◌, ◌^◌, ◌++◌, ◌||◌, ◌&&◌, ◌==◌, Bool, true, false, List, [], ◌∷◌, refl, sym, ap, ◌∙◌, subst, if◌then◌else◌, nat_eq}
+use Rattle.std.specs.Cmp.Lexicographic.{pointwise}
+use Rattle.std.specs.List.{list_any}
+use Rattle.std.proofs.lemmas.Bool.Decides.{Decides-eqb}
+use Rattle.std.proofs.lemmas.Slice.Eq.{slice_eq-Decides}
+use Rattle.std.proofs.lemmas.List.Sums.{fold-append}
+use Rattle.dt_model.specs.declared.calls.Call.{Call}
+use Rattle.dt_model.specs.declared.calls.Call.TheVariants.{Get, Batch, Query}
+use Rattle.dt_model.specs.declared.calls.Entry.{Entry}
+use Rattle.dt_model.specs.declared.calls.Update.{Update}
+use Rattle.dt_model.specs.declared.calls.Update.TheVariants.{Set, Add}
+use Rattle.dt_model.specs.declared.declared_tensors.Decls.{Decls}
+use Rattle.dt_model.specs.declared.replies.World.{World}
+use Rattle.dt_model.specs.Contents.{Contents, same_cell, with_cell, with_update, with_updates}
+use Rattle.dt_model.specs.Latches.{needs, latch_of_cell}
+use Rattle.dt_model.specs.Runs.{after_call, fold_of, base_of, cut}
+use Rattle.dt_model.specs.Tensors.{latch_of}
+use Rattle.dt_model.specs.Verdicts.{update_cell}
+use Rattle.commit_core.specs.Machine.{content_after}
+
+-- ---- one cell
+
+both_true : (a b : Bool) → (a && b) ≡ true → (a ≡ true) × (b ≡ true)
+both_true true true e = (refl, refl)
+both_true true false e = absurd (cc)
+both_true false b e = absurd (cc)
+
+-- two cells that are one have equal parts
+pub same_cell-is : (t : ℕ) (c : List ℕ) (u : ℕ) (d : List ℕ) → same_cell t c u d ≡ true → (t ≡ u) × (c ≡ d)
+same_cell-is t c u d e =
+    let b = both_true (t == u) (pointwise nat_eq c d) e in
+    ((Decides-eqb t u).0 b.0, (slice_eq-Decides Decides-eqb c d (pointwise nat_eq c d) refl).0 b.1)
+
+-- ---- contents that agree on the cells of a latch
+
+abbrev pub Agree : Decls → ℕ → Contents → Contents → Type 0
+Agree d l m n = (t : ℕ) (c : List ℕ) → (latch_of d t c == l) ≡ true → m t c ≡ n t c
+
+if_both : {A : Type 0} (b : Bool) (a c e f : A) → (b ≡ true → a ≡ e) → (b ≡ false → c ≡ f) → (if b then a else c) ≡ (if b then e else f)
+if_both true a c e f y n = y refl
+if_both false a c e f y n = n refl
+
+pub cut-agree : (d : Decls) (l : ℕ) (m n : Contents) → Agree d l m n → cut d m l ≡ cut d n l
+cut-agree d l m n a = λ i t c. if_both (latch_of d t c == l) (m t c) 0 (n t c) 0 (a t c) (λ _. refl) i
+
+pub agree-cut : (d : Decls) (l : ℕ) (m : Contents) → Agree d l (cut d m l) m
+agree-cut d l m t c e = go (latch_of d t c == l) e
+  where
+    go : (b : Bool) → b ≡ true → (if b then m t c else 0) ≡ m t c
+    go true e = refl
+    go false e = absurd (cc)
+
+cell_agrees : (d : Decls) (l : ℕ) (m n : Contents) (t : ℕ) (c : List ℕ) (v w : ℕ) → ((latch_of d t c == l) ≡ true → v ≡ w) → Agree d l m n → Agree d l (with_cell m t c v) (with_cell n t c w)
+cell_agrees d l m n t c v w same a u x here = if_both (same_cell t c u x) v (m u x) w (n u x)
+    (λ e. let s = same_cell-is t c u x e in same (subst (λ (p : ℕ × List ℕ). (latch_of d p.0 p.1 == l) ≡ true) (λ i. (sym s.0 i, sym s.1 i)) here))
+    (λ _. a u x here)
+
+with_update_agrees : (d : Decls) (l : ℕ) (m n : Contents) (u : Update) → Agree d l m n → Agree d l (with_update m u) (with_update n u)
+with_update_agrees d l m n (Set cell v) a = cell_agrees d l m n cell.tensor cell.at v v (λ _. refl) a
+with_update_agrees d l m n (Add cell v) a = cell_agrees d l m n cell.tensor cell.at ((m cell.tensor cell.at + v) % 2 ^ 64) ((n cell.tensor cell.at + v) % 2 ^ 64) (λ h. ap (λ k. (k + v) % 2 ^ 64) (a cell.tensor cell.at h)) a
+
+all_agree : (d : Decls) (l : ℕ) (m n : Contents) (us : List Update) → Agree d l m n → Agree d l (with_updates m us) (with_updates n us)
+all_agree d l m n [] a = a
+all_agree d l m n (u ∷ us) a = all_agree d l (with_update m u) (with_update n u) us (with_update_agrees d l m n u a)
+
+pub after_call-agree : (d : Decls) (l : ℕ) (m n : Contents) (call : Call) → Agree d l m n → Agree d l (after_call m call) (after_call n call)
+after_call-agree d l m n (Get cell) a = a
+after_call-agree d l m n (Batch us) a = all_agree d l m n us a
+after_call-agree d l m n (Query stmt) a = a
+
+-- ---- a call that doesn't need a latch leaves its cells
+
+cell_apart : (d : Decls) (l : ℕ) (m : Contents) (t : ℕ) (c : List ℕ) (v : ℕ) → (latch_of d t c == l) ≡ false → Agree d l (with_cell m t c v) m
+cell_apart d l m t c v apart u x here = go (same_cell t c u x) refl
+  where
+    go : (b : Bool) → same_cell t c u x ≡ b → (if b then v else m u x) ≡ m u x
+    go true e = let s = same_cell-is t c u x e in let h = subst (λ (p : ℕ × List ℕ). (latch_of d p.0 p.1 == l) ≡ true) (λ i. (sym s.0 i, sym s.1 i)) here in absurd (cc (h, apart))
+    go false e = refl
+
+with_update_apart : (d : Decls) (l : ℕ) (m : Contents) (u : Update) → (latch_of_cell d (update_cell u) == l) ≡ false → Agree d l (with_update m u) m
+with_update_apart d l m (Set cell v) apart = cell_apart d l m cell.tensor cell.at v apart
+with_update_apart d l m (Add cell v) apart = cell_apart d l m cell.tensor cell.at ((m cell.tensor cell.at + v) % 2 ^ 64) apart
+
+neither : (a b : Bool) → (a || b) ≡ false → (a ≡ false) × (b ≡ false)
+neither true b e = absurd (cc)
+neither false b e = (refl, e)
+
+all_apart : (d : Decls) (l : ℕ) (m : Contents) (us : List Update) → list_any (λ u. latch_of_cell d (update_cell u) == l) us ≡ false → Agree d l (with_updates m us) m
+all_apart d l m [] apart t c here = refl
+all_apart d l m (u ∷ us) apart t c here =
+    let n = neither (latch_of_cell d (update_cell u) == l) (list_any (λ u. latch_of_cell d (update_cell u) == l) us) apart in
+    all_apart d l (with_update m u) us n.1 t c here ∙ with_update_apart d l m u n.0 t c here
+
+pub after_call-apart : (d : Decls) (l : ℕ) (m : Contents) (call : Call) → needs d call l ≡ false → cut d (after_call m call) l ≡ cut d m l
+after_call-apart d l m (Get cell) apart = refl
+after_call-apart d l m (Batch us) apart = cut-agree d l (with_updates m us) m (all_apart d l m us apart)
+after_call-apart d l m (Query stmt) apart = refl
+
+-- ---- the machine's contents
+
+-- what a latch's cells become by a call is what the call leaves in them
+pub content_after-cut : (d : Decls) (m : Contents) (call : Call) (l : ℕ) → content_after d call l (cut d m l) ≡ cut d (after_call m call) l
+content_after-cut d m call l = go (needs d call l) refl
+  where
+    go : (b : Bool) → needs d call l ≡ b → (if b then cut d (after_call (cut d m l) call) l else cut d m l) ≡ cut d (after_call m call) l
+    go true e = cut-agree d l (after_call (cut d m l) call) (after_call m call) (after_call-agree d l (cut d m l) m call (agree-cut d l m))
+    go false e = sym (after_call-apart d l m call e)
+
+pub fold_of-push : (w : World) (H : List Entry) (e : Entry) → fold_of w (H ++ e ∷ []) ≡ after_call (fold_of w H) e.call
+fold_of-push w H e = fold-append (λ n f. after_call n f.call) (base_of w) H (e ∷ [])
+
+-- entries that don't need a latch leave its cells
+pub cut-apart : (w : World) (l : ℕ) (p : List Entry) (e : Entry) → needs w.decls e.call l ≡ false → cut w.decls (fold_of w (p ++ e ∷ [])) l ≡ cut w.decls (fold_of w p) l
+cut-apart w l p e apart = ap (λ (m : Contents). cut w.decls m l) (fold_of-push w p e) ∙ after_call-apart w.decls l (fold_of w p) e.call apart

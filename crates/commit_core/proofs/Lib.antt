@@ -1,0 +1,16 @@
+pub mod Places
+pub mod TensorLemmas
+pub mod Cuts
+pub mod Calls
+pub mod Expressions
+pub mod Bounded
+pub mod StateLemmas
+pub mod Steps
+pub mod Next
+pub mod TurnLemmas
+pub mod HoldLemmas
+pub mod Bounds
+pub mod MadeLemmas
+pub mod Reaching
+pub mod GoingOn
+pub mod Sounds

@@ -1,0 +1,102 @@
+-- What the entries have made of the contents, and what the gets among them have read.
+use Rattle.std.proofs.Common.{◌≡◌, ℕ, ◌<◌, ◌≤◌, ◌++◌, true, false, List, [], ◌∷◌, length, refl, ap, sym, ◌∙◌, arith, Option, Some, None, zero, suc, take, length-append}
+use Rattle.std.specs.Prelude.{◌==◌, if◌then◌else◌, All, AllPairs, slice_get, nat_lt, option_and_then}
+use Rattle.std.specs.Option.{option_map}
+use Rattle.std.proofs.lemmas.Bool.Decides.{nat_tests}
+use Rattle.std.proofs.lemmas.List.{take-append-le}
+use Rattle.std.proofs.lemmas.List.Elements.{All-push, All-nil}
+use Rattle.std.proofs.lemmas.List.Sums.{fold_push}
+use Rattle.std.proofs.lemmas.List.Quantifiers.{all_pairs_push}
+use Rattle.std.proofs.lemmas.Option.{slice_get_past}
+use Rattle.std.proofs.Math.Seq.{take-append_seam}
+use Rattle.dt_model.specs.declared.calls.Call.{Call}
+use Rattle.dt_model.specs.declared.calls.Call.TheVariants.{Get, Batch, Query}
+use Rattle.dt_model.specs.declared.calls.Entry.{Entry}
+use Rattle.dt_model.specs.declared.declared_tensors.Decls.{Decls}
+use Rattle.dt_model.specs.declared.replies.World.{World}
+use Rattle.dt_model.specs.Contents.{Contents}
+use Rattle.dt_model.specs.Tensors.{latch_of}
+use Rattle.dt_model.specs.Latches.{latch_of_cell}
+use Rattle.dt_model.specs.Runs.{cut, call_of, after_call, fold_of, base_of, reply_of, reply_to, Rises}
+use Rattle.commit_core.specs.Machine.{content_after}
+use Rattle.commit_core.specs.Events.{read_by}
+use Rattle.commit_core.specs.State.{reply_in}
+use Rattle.commit_core.specs.Sound.{value_in}
+use Rattle.commit_core.proofs.Cuts.{content_after-cut}
+
+pub record Made (w : World) (content : ℕ → Contents) (history : List Entry) (read : List (Option ℕ)) : Type 0 where
+  pub called : All (λ e. call_of w e.turn.session e.turn.number ≡ Some e.call) history
+  pub rising : AllPairs Rises history
+  pub contents : (l : ℕ) → content l ≡ cut w.decls (fold_of w history) l
+  pub counted : length read ≡ length history
+  pub replies : (place : ℕ) → reply_in read place ≡ value_in (reply_of w history place)
+
+slice_get-before : {X : Type 0} (xs ys : List X) (i : ℕ) → i < length xs → slice_get (xs ++ ys) i ≡ slice_get xs i
+slice_get-before [] ys i l = absurd (omega arith)
+slice_get-before (x ∷ xs) ys zero l = refl
+slice_get-before (x ∷ xs) ys (suc i) l = slice_get-before xs ys i (omega arith)
+
+slice_get-last : {X : Type 0} (xs : List X) (y : X) → slice_get (xs ++ y ∷ []) (length xs) ≡ Some y
+slice_get-last [] y = refl
+slice_get-last (x ∷ xs) y = slice_get-last xs y
+
+same_latch : (n x : ℕ) → (if n == n then x else 0) ≡ x
+same_latch n x = let t : (n == n) ≡ true = grind (arith, nat_tests) in rw t refl
+
+-- a get reads in its latch's content what the history makes of its cell
+read_is : (d : Decls) (content : ℕ → Contents) (m : Contents) (call : Call) → ((l : ℕ) → content l ≡ cut d m l) → read_by d content call ≡ value_in (Some (reply_to d m call))
+read_is d content m (Get cell) h = ap Some (ap (λ f. f cell.tensor cell.at) (h (latch_of_cell d cell)) ∙ same_latch (latch_of d cell.tensor cell.at) (m cell.tensor cell.at))
+read_is d content m (Batch updates) h = refl
+read_is d content m (Query stmt) h = refl
+
+reply_of-before : (w : World) (es : List Entry) (e : Entry) (p : ℕ) → p < length es → reply_of w (es ++ e ∷ []) p ≡ reply_of w es p
+reply_of-before w es e p l =
+    ap (λ o. option_map (λ x. reply_to w.decls (fold_of w (take p (es ++ e ∷ []))) x.call) o) (slice_get-before es (e ∷ []) p l)
+    ∙ ap (λ xs. option_map (λ x. reply_to w.decls (fold_of w xs) x.call) (slice_get es p)) (take-append-le p es (e ∷ []) (omega arith))
+
+reply_of-last : (w : World) (es : List Entry) (e : Entry) → reply_of w (es ++ e ∷ []) (length es) ≡ Some (reply_to w.decls (fold_of w es) e.call)
+reply_of-last w es e =
+    ap (λ o. option_map (λ x. reply_to w.decls (fold_of w (take (length es) (es ++ e ∷ []))) x.call) o) (slice_get-last es e)
+    ∙ ap (λ xs. Some (reply_to w.decls (fold_of w xs) e.call)) (take-append_seam es (e ∷ []))
+
+reply_of-past : (w : World) (es : List Entry) (p : ℕ) → length es ≤ p → reply_of w es p ≡ None
+reply_of-past w es p l = ap (λ o. option_map (λ x. reply_to w.decls (fold_of w (take p es)) x.call) o) (slice_get_past es p l)
+
+replies_on : (w : World) (history : List Entry) (replies : List (Option ℕ)) (e : Entry) (r : Option ℕ) → length replies ≡ length history → ((place : ℕ) → reply_in replies place ≡ value_in (reply_of w history place))
+    → r ≡ value_in (Some (reply_to w.decls (fold_of w history) e.call)) → (place : ℕ) → reply_in (replies ++ r ∷ []) place ≡ value_in (reply_of w (history ++ e ∷ []) place)
+replies_on w history replies e r same old is place = elim (nat_lt place (length history)) as (λ t. nat_lt place (length history) ≡ t → reply_in (replies ++ r ∷ []) place ≡ value_in (reply_of w (history ++ e ∷ []) place)) [
+  | true ↦ λ t.
+      let l : place < length history = grind (arith, nat_tests) in
+      ap (λ o. option_and_then (λ x. x) o) (slice_get-before replies (r ∷ []) place (omega arith)) ∙ old place ∙ ap value_in (sym (reply_of-before w history e place l))
+  | false ↦ λ t. elim (nat_lt (length history) place) as (λ u. nat_lt (length history) place ≡ u → reply_in (replies ++ r ∷ []) place ≡ value_in (reply_of w (history ++ e ∷ []) place)) [
+    | true ↦ λ u.
+        let l : length history < place = grind (arith, nat_tests) in
+        ap (λ o. option_and_then (λ x. x) o) (slice_get_past (replies ++ r ∷ []) place (omega (arith, length-append replies (r ∷ []))))
+        ∙ ap value_in (sym (reply_of-past w (history ++ e ∷ []) place (omega (arith, length-append history (e ∷ [])))))
+    | false ↦ λ u.
+        let here : place ≡ length history = grind (arith, nat_tests) in
+        ap (λ k. reply_in (replies ++ r ∷ []) k) (here ∙ sym same) ∙ ap (λ o. option_and_then (λ x. x) o) (slice_get-last replies r) ∙ is
+        ∙ ap value_in (sym (reply_of-last w history e)) ∙ ap (λ k. value_in (reply_of w (history ++ e ∷ []) k)) (sym here)
+  ] refl
+] refl
+
+pub Made-commit : (w : World) (content : ℕ → Contents) (history : List Entry) (replies : List (Option ℕ)) (e : Entry)
+    → call_of w e.turn.session e.turn.number ≡ Some e.call → All (λ f. f.turn.session ≡ e.turn.session → f.turn.number < e.turn.number) history
+    → Made w content history replies → Made w (λ l. content_after w.decls e.call l (content l)) (history ++ e ∷ []) (replies ++ read_by w.decls content e.call ∷ [])
+Made-commit w content history replies e is above h = record {
+  called = All-push (λ x. call_of w x.turn.session x.turn.number ≡ Some x.call) history e h.called is;
+  rising = all_pairs_push Rises history e h.rising (λ k d l. above k d l);
+  contents = λ l. ap (content_after w.decls e.call l) (h.contents l) ∙ content_after-cut w.decls (fold_of w history) e.call l
+      ∙ ap (λ m. cut w.decls m l) (sym (fold_push (λ m x. after_call m x.call) (base_of w) history e));
+  counted = let old = h.counted in omega (arith, length-append replies (read_by w.decls content e.call ∷ []), length-append history (e ∷ []));
+  replies = replies_on w history replies e (read_by w.decls content e.call) h.counted h.replies (read_is w.decls content (fold_of w history) e.call h.contents);
+}
+
+pub Made-opened : (w : World) → Made w (λ l. cut w.decls (base_of w) l) [] []
+Made-opened w = record {
+  called = All-nil (λ e. call_of w e.turn.session e.turn.number ≡ Some e.call);
+  rising = λ i j d low high. absurd (omega arith);
+  contents = λ l. refl;
+  counted = refl;
+  replies = λ place. refl;
+}

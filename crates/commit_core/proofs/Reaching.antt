@@ -1,0 +1,116 @@
+-- The core's events are takes, commits and gives of the machine.
+use Rattle.std.proofs.Common.{◌≡◌, ℕ, ◌+◌, ◌<◌, ◌≤◌, Bool, true, false, refl, ap, sym, ◌∙◌, arith, subst, Some, zero, suc, inl, inr}
+use Rattle.std.specs.Prelude.{◌⊎◌, ◌≢◌, ◌&&◌, ◌||◌, ◌==◌, if◌then◌else◌, nat_lt, All}
+use Rattle.std.proofs.lemmas.Bool.{cases_eq}
+use Rattle.std.proofs.lemmas.Bool.Decides.{nat_tests, Decides-eqb}
+use Rattle.dt_model.specs.declared.calls.Call.{Call}
+use Rattle.dt_model.specs.declared.calls.Entry.{Entry}
+use Rattle.dt_model.specs.declared.replies.World.{World}
+use Rattle.dt_model.specs.Latches.{needs}
+use Rattle.dt_model.specs.Worlds.{IsValid}
+use Rattle.dt_model.specs.Runs.{call_of}
+use Rattle.commit_core.specs.declared.events.Seat.{Seat}
+use Rattle.commit_core.specs.Machine.{Machine, Reached, takes, commits, gives, taken, committed, given, journal_latch, commit_needs, with_holder}
+use Rattle.commit_core.specs.Events.{holds_below, without_session}
+use Rattle.commit_core.proofs.Bounds.{needs_below}
+use Rattle.commit_core.proofs.Calls.{call_is_valid_at}
+use Rattle.commit_core.proofs.Steps.{is_session}
+use Rattle.commit_core.proofs.HoldLemmas.{Holds, Takes, holds_below-at, holder_same, holder_other}
+
+or_cases : (a b : Bool) → (a || b) ≡ true → (a ≡ true) ⊎ (b ≡ true)
+or_cases true b e = inl refl
+or_cases false b e = inr e
+
+-- what a commit needs is among the World's latches
+needed_within : (w : World) (s n : ℕ) (call : Call) (l : ℕ) → IsValid w → call_of w s n ≡ Some call → commit_needs w.decls call l ≡ true → l < journal_latch w.decls + 1
+needed_within w s n call l valid is need = elim (or_cases (needs w.decls call l) (l == journal_latch w.decls) need) [
+  | inl own ↦ let below : l < journal_latch w.decls = needs_below w.decls call l valid.decls (call_is_valid_at w s n call valid is) own in omega arith
+  | inr last ↦ let same : l ≡ journal_latch w.decls = (Decides-eqb l (journal_latch w.decls)).0 last in omega arith
+]
+
+pub Reached-take : (w : World) (m : Machine) (seat : ℕ → Seat) (s l : ℕ) (call : Call) → call_of w s (seat s).number ≡ Some call → Takes w.decls m.holder (seat s) s l call → Holds w m.holder seat → Reached w m → Reached w (taken m s l)
+Reached-take w m seat s l call is t h r =
+    let some : 1 ≤ s = is_session w s (seat s).number call is in
+    takes m s l r (record { session = omega arith; latch = t.within; free = t.free; above = λ k e. below k some e })
+  where
+    below : (k : ℕ) → 1 ≤ s → m.holder k ≡ s → k < l
+    below k some e = elim (nat_lt k l) as (λ b. nat_lt k l ≡ b → k < l) [
+      | true ↦ λ b. grind (arith, nat_tests)
+      | false ↦ λ b. elim (cases_eq k l) [
+        | inl same ↦ let free : m.holder k ≡ 0 = ap m.holder same ∙ t.free in absurd (omega arith)
+        | inr other ↦
+            let low : l < k = grind (arith, nat_tests) in
+            let own : m.holder l ≡ s = holds_below-at w.decls m.holder s call k l (h.first s k call is t.uncommitted e).1 low t.needed in
+            let free : m.holder l ≡ 0 = t.free in
+            absurd (omega arith)
+      ]
+    ] refl
+
+pub Reached-commit : (w : World) (m : Machine) (seat : ℕ → Seat) (s : ℕ) (e : Entry) → IsValid w → call_of w s (seat s).number ≡ Some e.call → e.turn.session ≡ s → holds_below w.decls m.holder s e.call (journal_latch w.decls + 1) ≡ true
+    → All (λ f. f.turn.session ≡ e.turn.session → f.turn.number < e.turn.number) m.history → Reached w m → Reached w (committed w.decls m e)
+Reached-commit w m seat s e valid is session all above r =
+    let some : 1 ≤ s = is_session w s (seat s).number e.call is in
+    commits m e r (record {
+      session = omega arith;
+      valid = call_is_valid_at w s (seat s).number e.call valid is;
+      holds = λ l need. holds_below-at w.decls m.holder s e.call (journal_latch w.decls + 1) l all (needed_within w s (seat s).number e.call l valid is need) need ∙ sym session;
+      above = above;
+    })
+
+pub Reached-give : (w : World) (m : Machine) (s l : ℕ) → 1 ≤ s → m.holder l ≡ s → Reached w m → Reached w (given m l)
+Reached-give w m s l some own r = gives m s l r (record { session = omega arith; held = own })
+
+-- the holders after the first n latches are given back by session s
+abbrev given_below : (ℕ → ℕ) → ℕ → ℕ → ℕ → ℕ
+given_below f s n k = if nat_lt k n && f k == s then 0 else f k
+
+none_given : (f : ℕ → ℕ) (s k : ℕ) → given_below f s 0 k ≡ f k
+none_given f s k = let t : nat_lt k 0 ≡ false = grind (arith, nat_tests) in rw t refl
+
+given_more : (f : ℕ → ℕ) (s n k : ℕ) → f n ≡ s → with_holder (given_below f s n) n 0 k ≡ given_below f s (suc n) k
+given_more f s n k own = elim (cases_eq k n) [
+  | inl same ↦ holder_same (given_below f s n) n 0 k same ∙ sym (let a : nat_lt k (suc n) ≡ true = grind (arith, nat_tests) in let own' : f k ≡ s = ap f same ∙ own in let b : (f k == s) ≡ true = grind (arith, nat_tests) in rw (a, b) refl)
+  | inr other ↦ holder_other (given_below f s n) n 0 k other ∙ ap (λ t. if t && f k == s then 0 else f k) (same_side k n other)
+]
+  where
+    same_side : (k n : ℕ) → k ≢ n → nat_lt k n ≡ nat_lt k (suc n)
+    same_side k n other = grind (arith, nat_tests)
+
+given_no_more : (f : ℕ → ℕ) (s n k : ℕ) → f n ≢ s → given_below f s n k ≡ given_below f s (suc n) k
+given_no_more f s n k other = elim (cases_eq k n) [
+  | inl same ↦ let not_own : f k ≢ s = λ e. other (sym (ap f same) ∙ e) in let t : (f k == s) ≡ false = grind (arith, nat_tests) in ap (λ b. if nat_lt k n && b then 0 else f k) t ∙ neither (nat_lt k n) (f k) ∙ sym (ap (λ b. if nat_lt k (suc n) && b then 0 else f k) t ∙ neither (nat_lt k (suc n)) (f k))
+  | inr apart ↦ ap (λ t. if t && f k == s then 0 else f k) (same_side k n apart)
+]
+  where
+    same_side : (k n : ℕ) → k ≢ n → nat_lt k n ≡ nat_lt k (suc n)
+    same_side k n other = grind (arith, nat_tests)
+
+    neither : (a : Bool) (x : ℕ) → (if a && false then 0 else x) ≡ x
+    neither true x = refl
+    neither false x = refl
+
+still_held : (f : ℕ → ℕ) (s n : ℕ) → given_below f s n n ≡ f n
+still_held f s n = let t : nat_lt n n ≡ false = grind (arith, nat_tests) in rw t refl
+
+abbrev gave : Machine → ℕ → ℕ → Machine
+gave m s n = record { holder = given_below m.holder s n; content = m.content; history = m.history }
+
+gives_below : (w : World) (m : Machine) (s : ℕ) → 1 ≤ s → Reached w m → (n : ℕ) → Reached w (gave m s n)
+gives_below w m s some r zero = subst (λ f. Reached w (record { holder = f; content = m.content; history = m.history })) (λ i k. sym (none_given m.holder s k) i) r
+gives_below w m s some r (suc n) = elim (cases_eq (m.holder n) s) [
+  | inl own ↦ subst (λ f. Reached w (record { holder = f; content = m.content; history = m.history })) (λ i k. given_more m.holder s n k own i) (Reached-give w (gave m s n) s n some (still_held m.holder s n ∙ own) (gives_below w m s some r n))
+  | inr other ↦ subst (λ f. Reached w (record { holder = f; content = m.content; history = m.history })) (λ i k. given_no_more m.holder s n k other i) (gives_below w m s some r n)
+]
+
+all_given : (w : World) (f : ℕ → ℕ) (s : ℕ) → 1 ≤ s → ((l : ℕ) → journal_latch w.decls < l → f l ≡ 0) → (k : ℕ) → given_below f s (journal_latch w.decls + 1) k ≡ without_session f s k
+all_given w f s some within k = elim (nat_lt k (journal_latch w.decls + 1)) as (λ b. nat_lt k (journal_latch w.decls + 1) ≡ b → given_below f s (journal_latch w.decls + 1) k ≡ without_session f s k) [
+  | true ↦ λ t. rw t refl
+  | false ↦ λ t.
+      let past : journal_latch w.decls < k = grind (arith, nat_tests) in
+      let free : f k ≡ 0 = within k past in
+      let not_own : (f k == s) ≡ false = grind (arith, nat_tests) in
+      rw (t, not_own) refl
+] refl
+
+pub Reached-quit : (w : World) (m : Machine) (s : ℕ) → 1 ≤ s → ((l : ℕ) → journal_latch w.decls < l → m.holder l ≡ 0) → Reached w m → Reached w (record { holder = without_session m.holder s; content = m.content; history = m.history })
+Reached-quit w m s some within r = subst (λ f. Reached w (record { holder = f; content = m.content; history = m.history })) (λ i k. all_given w m.holder s some within k i) (gives_below w m s some r (journal_latch w.decls + 1))

@@ -1,0 +1,58 @@
+-- What contracts see of a core, and the progress that it stands for.
+use Rattle.std.specs.Prelude.{ℕ, ◌≡◌, ◌+◌, List, length, slice_index, false, Option, slice_get, option_and_then}
+use Rattle.std.specs.List.{slice_index_or}
+use Rattle.dt_model.specs.declared.calls.Turn.{Turn}
+use Rattle.dt_model.specs.declared.calls.Entry.{Entry}
+use Rattle.dt_model.specs.declared.declared_tensors.Decls.{Decls}
+use Rattle.dt_model.specs.Worlds.{IsValid}
+use Rattle.dt_model.specs.Runs.{cut}
+use Rattle.dt_model.specs.declared.replies.World.{World}
+use Rattle.dt_model.specs.Contents.{Contents}
+use Rattle.commit_core.specs.declared.events.Seat.{Seat}
+use Rattle.commit_core.specs.Cells.{Cells, contents_of}
+use Rattle.commit_core.specs.Machine.{Machine, journal_latch}
+use Rattle.commit_core.specs.Events.{Progress}
+
+-- the World; by latch the session that holds it; by session where it stands, from place 1 on; by tensor its cells; the
+-- entries; per entry the number that it read; the turns that quit
+pub record CoreState : Type 0 where
+  pub world : World
+  pub holders : List ℕ
+  pub seats : List Seat
+  pub tensors : List Cells
+  pub entries : List Entry
+  pub replies : List (Option ℕ)
+  pub lost : List Turn
+
+-- the content of latch l: what the cells of all tensors say of the cells of that latch
+abbrev pub content_in : Decls → List Cells → ℕ → Contents
+content_in d tensors l = cut d (contents_of tensors) l
+
+-- a session that has no call
+abbrev pub no_seat : Seat
+no_seat = record { number = 0; committed = false }
+
+-- where session s stands
+abbrev pub seat_in : List Seat → ℕ → Seat
+seat_in seats s = slice_index_or seats s no_seat
+
+-- the latch machine that a core stands for
+abbrev pub machine_of : CoreState → Machine
+machine_of c = record { holder = λ l. slice_index c.holders l; content = content_in c.world.decls c.tensors; history = c.entries }
+
+-- the progress that a core stands for
+abbrev pub progress_of : CoreState → Progress
+progress_of c = record { machine = machine_of c; seat = seat_in c.seats; lost = c.lost; replies = c.replies }
+
+-- what the entry at a place read, if there is one and it is a get
+abbrev pub reply_in : List (Option ℕ) → ℕ → Option ℕ
+reply_in replies place = option_and_then (λ r. r) (slice_get replies place)
+
+-- what a core's fields keep: the World is valid, each latch has a holder, each session a place and each tensor its cells,
+-- and the journal has the room that it was made with
+pub record IsWhole (w : World) (holders : List ℕ) (seats : List Seat) (count made spare total : ℕ) : Type 0 where
+  pub valid : IsValid w
+  pub latches : length holders ≡ journal_latch w.decls + 1
+  pub sessions : length seats ≡ length w.scripts + 1
+  pub tensors : count ≡ length w.base
+  pub room : made + spare ≡ total

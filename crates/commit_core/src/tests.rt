@@ -1,0 +1,481 @@
+ghost use Rattle.std.specs.Prelude.{◌≡◌, [], ◌∷◌, IfOk};
+ghost use Rattle.dt_model.specs.declared.calls.Call.TheVariants.{Get, Batch, Query};
+ghost use Rattle.dt_model.specs.declared.calls.Update.TheVariants.{Set, Add};
+ghost use Rattle.dt_model.specs.declared.replies.Verdict.TheVariants.{Accepted};
+ghost use Rattle.dt_model.specs.declared.statements.Expr.TheVariants.{Access};
+ghost use Rattle.dt_model.specs.Worlds.{IsValid};
+
+use crate::cores::Core;
+use crate::events::Event::{Commit, Give, Quit, Take};
+use crate::events::{Event, StepFault};
+use arrayvec::ArrayVec;
+use dt_model::{
+    Call, Cell, Coords, Decls, Expr, Listed, Name, NoMemory, Schema, Stmt, TensorDecl, Turn,
+    Update, Vars, Verdict, World,
+};
+use std::alloc::Global;
+use std::process::Abort;
+use std::test::Fail;
+
+fn one<T: Drop>(alloc: Global, item: T) -> Result<Listed<T>, NoMemory>
+    ensures value { IfOk result (λ l. l ≡ item ∷ []) }
+{
+    let mut items = Listed::new(alloc);
+    match items.push(item) {
+        Ok(()) => Ok(items),
+        Err(_) => Err(NoMemory),
+    }
+}
+
+fn two<T: Drop>(alloc: Global, first: T, second: T) -> Result<Listed<T>, NoMemory>
+    ensures value { IfOk result (λ l. l ≡ first ∷ second ∷ []) }
+{
+    let mut items = Listed::new(alloc);
+    if items.push(first).is_err() {
+        return Err(NoMemory);
+    }
+    match items.push(second) {
+        Ok(()) => Ok(items),
+        Err(_) => Err(NoMemory),
+    }
+}
+
+fn three<T: Drop>(alloc: Global, first: T, second: T, third: T) -> Result<Listed<T>, NoMemory>
+    ensures value { IfOk result (λ l. l ≡ first ∷ second ∷ third ∷ []) }
+{
+    let mut items = two(alloc, first, second)?;
+    match items.push(third) {
+        Ok(()) => Ok(items),
+        Err(_) => Err(NoMemory),
+    }
+}
+
+fn named(byte: u8) -> Result<Name, NoMemory>
+    ensures value { IfOk result (λ n. n ≡ byte ∷ []) }
+{
+    match Name::new(&[byte]) {
+        Some(name) => Ok(name),
+        None => Err(NoMemory),
+    }
+}
+
+fn at(coordinate: u32) -> Coords
+    ensures value { result ≡ coordinate ∷ [] }
+{
+    let mut coords = Coords::new();
+    coords.push(coordinate);
+    coords
+}
+
+fn cell(tensor: u32, coordinate: u32) -> Cell
+    ensures value { result ≡ record { tensor = tensor; at = coordinate ∷ [] } }
+{
+    Cell {
+        tensor,
+        at: at(coordinate),
+    }
+}
+
+fn flat() -> Result<Schema, NoMemory>
+    ensures value { IfOk result (λ s. s ≡ record { name = 102 ∷ []; kinds = record { items = [] }; root = 102 ∷ [] }) }
+{
+    let name = named(b'f')?;
+    let root = named(b'f')?;
+    Ok(Schema {
+        name,
+        kinds: ArrayVec::new(),
+        root,
+    })
+}
+
+fn vector(name: u8, dimension: u32, latches: u32) -> Result<TensorDecl, NoMemory>
+    ensures value { IfOk result (λ t. t ≡ record { name = name ∷ []; dims = dimension ∷ []; formats = record { items = 0 ∷ [] }; latches = latches }) }
+{
+    let name = named(name)?;
+    let mut formats = ArrayVec::new();
+    formats.push(0);
+    Ok(TensorDecl {
+        name,
+        dims: at(dimension),
+        formats,
+        latches,
+    })
+}
+
+fn get(tensor: u32, coordinate: u32) -> Verdict
+    ensures value { result ≡ Accepted (Get (record { tensor = tensor; at = coordinate ∷ [] })) }
+{
+    Verdict::Accepted(Call::Get(cell(tensor, coordinate)))
+}
+
+fn set(tensor: u32, coordinate: u32, value: u64) -> Update
+    ensures value { result ≡ Set (record { tensor = tensor; at = coordinate ∷ [] }) value }
+{
+    Update::Set {
+        cell: cell(tensor, coordinate),
+        value,
+    }
+}
+
+fn add(tensor: u32, coordinate: u32, value: u64) -> Update
+    ensures value { result ≡ Add (record { tensor = tensor; at = coordinate ∷ [] }) value }
+{
+    Update::Add {
+        cell: cell(tensor, coordinate),
+        value,
+    }
+}
+
+/// The statement `x(i) = b(i)`.
+fn copy_of_b() -> Result<Stmt, NoMemory>
+    ensures value { IfOk result (λ s. s ≡ record { name = 120 ∷ []; vars = record { items = (105 ∷ []) ∷ [] }; left = 0 ∷ []; right = Access (98 ∷ []) (0 ∷ []) }) }
+{
+    let name = named(b'x')?;
+    let variable = named(b'i')?;
+    let tensor = named(b'b')?;
+    let mut vars = ArrayVec::new();
+    vars.push(variable);
+    let mut left = Vars::new();
+    left.push(0);
+    let mut right = Vars::new();
+    right.push(0);
+    Ok(Stmt {
+        name,
+        vars,
+        left,
+        right: Expr::Access {
+            tensor,
+            vars: right,
+        },
+    })
+}
+
+/// Of v, which has dimension 4 and 2 latches, session 1 sets the first cell and session 2 gets it.
+fn small_world(alloc: Global) -> Result<World, NoMemory>
+    ensures valid { IfOk result (λ w. IsValid w) }
+{
+    let schemas = one(alloc, flat()?)?;
+    let tensors = one(alloc, vector(b'v', 4, 2)?)?;
+    let base = one(alloc, Listed::new(alloc))?;
+    let setting = one(
+        alloc,
+        Verdict::Accepted(Call::Batch(one(alloc, set(0, 0, 5))?)),
+    )?;
+    let getting = one(alloc, get(0, 0))?;
+    let scripts = two(alloc, setting, getting)?;
+    let decls = Decls { schemas, tensors };
+    Ok(World {
+        decls,
+        base,
+        scripts,
+    })
+}
+
+/// Tensor a has dimension 4 and latches 0 and 1, tensor b dimension 3 and latch 2; the journal's is 3.
+/// Session 1 makes a batch over both tensors and then gets a cell of b; session 2 queries b and then
+/// gets a cell of a.
+fn large_world(alloc: Global) -> Result<World, NoMemory>
+    ensures valid { IfOk result (λ w. IsValid w) }
+{
+    let schemas = one(alloc, flat()?)?;
+    let tensors = two(alloc, vector(b'a', 4, 2)?, vector(b'b', 3, 1)?)?;
+    let of_a = two(alloc, (at(0), 2), (at(0), 3))?;
+    let of_b = one(alloc, (at(2), 1))?;
+    let base = two(alloc, of_a, of_b)?;
+    let updates = three(alloc, set(0, 0, 5), add(1, 2, 7), set(0, 3, 9))?;
+    let first = two(alloc, Verdict::Accepted(Call::Batch(updates)), get(1, 2))?;
+    let query = Verdict::Accepted(Call::Query(copy_of_b()?));
+    let second = two(alloc, query, get(0, 3))?;
+    let scripts = two(alloc, first, second)?;
+    let decls = Decls { schemas, tensors };
+    Ok(World {
+        decls,
+        base,
+        scripts,
+    })
+}
+
+const SMALL: [Event; 9] = [
+    Take {
+        session: 2,
+        latch: 0,
+    },
+    Take {
+        session: 1,
+        latch: 0,
+    },
+    Take {
+        session: 2,
+        latch: 2,
+    },
+    Commit { session: 2 },
+    Give {
+        session: 2,
+        latch: 0,
+    },
+    Take {
+        session: 1,
+        latch: 0,
+    },
+    Give {
+        session: 2,
+        latch: 2,
+    },
+    Take {
+        session: 1,
+        latch: 2,
+    },
+    Commit { session: 1 },
+];
+
+const SMALL_QUIT: [Event; 2] = [
+    Take {
+        session: 1,
+        latch: 0,
+    },
+    Quit { session: 1 },
+];
+
+const WHOLE: [Event; 27] = [
+    Take {
+        session: 1,
+        latch: 0,
+    },
+    Take {
+        session: 1,
+        latch: 1,
+    },
+    Take {
+        session: 1,
+        latch: 2,
+    },
+    Take {
+        session: 2,
+        latch: 2,
+    },
+    Take {
+        session: 1,
+        latch: 3,
+    },
+    Commit { session: 1 },
+    Quit { session: 1 },
+    Give {
+        session: 1,
+        latch: 3,
+    },
+    Give {
+        session: 1,
+        latch: 1,
+    },
+    Take {
+        session: 2,
+        latch: 3,
+    },
+    Give {
+        session: 1,
+        latch: 0,
+    },
+    Take {
+        session: 2,
+        latch: 2,
+    },
+    Give {
+        session: 1,
+        latch: 2,
+    },
+    Take {
+        session: 2,
+        latch: 2,
+    },
+    Take {
+        session: 1,
+        latch: 2,
+    },
+    Take {
+        session: 2,
+        latch: 3,
+    },
+    Commit { session: 2 },
+    Give {
+        session: 2,
+        latch: 2,
+    },
+    Take {
+        session: 1,
+        latch: 2,
+    },
+    Give {
+        session: 2,
+        latch: 3,
+    },
+    Take {
+        session: 1,
+        latch: 3,
+    },
+    Commit { session: 1 },
+    Give {
+        session: 1,
+        latch: 2,
+    },
+    Give {
+        session: 1,
+        latch: 3,
+    },
+    Take {
+        session: 2,
+        latch: 1,
+    },
+    Take {
+        session: 2,
+        latch: 3,
+    },
+    Commit { session: 2 },
+];
+
+const QUITS: [Event; 10] = [
+    Take {
+        session: 1,
+        latch: 1,
+    },
+    Take {
+        session: 1,
+        latch: 0,
+    },
+    Take {
+        session: 1,
+        latch: 2,
+    },
+    Commit { session: 1 },
+    Give {
+        session: 1,
+        latch: 0,
+    },
+    Quit { session: 1 },
+    Take {
+        session: 1,
+        latch: 2,
+    },
+    Take {
+        session: 1,
+        latch: 3,
+    },
+    Commit { session: 1 },
+    Quit { session: 1 },
+];
+
+const STRANGERS: [Event; 6] = [
+    Take {
+        session: 0,
+        latch: 0,
+    },
+    Take {
+        session: 3,
+        latch: 0,
+    },
+    Take {
+        session: 1,
+        latch: 9,
+    },
+    Give {
+        session: 1,
+        latch: 0,
+    },
+    Commit { session: 2 },
+    Quit { session: 3 },
+];
+
+fn turn(session: u32, number: u32) -> Turn {
+    Turn { session, number }
+}
+
+/// A list of events, and what it must come to: the turns of the journal with what each get read,
+/// the holders of the first latches, and the turns that are lost.
+#[derive(Drop)]
+struct Row<'a> {
+    events: &'a [Event],
+    made: &'a [(Turn, Option<u64>)],
+    holders: &'a [(u32, u32)],
+    lost: &'a [Turn],
+}
+
+fn check_row(rt: &impl Abort, alloc: Global, world: &World, row: &Row<'_>) -> Result<(), Fail>
+    requires { IsValid world.now }
+{
+    let core = Core::run(alloc, world, row.events)?;
+    assert_eq!(rt; core.journal().len(), row.made.len());
+    for (place, (made, reply)) in row.made.iter().enumerate() {
+        let entry = core.journal().get(place).ok_or("an entry")?;
+        assert_eq!(rt; entry.turn, *made);
+        assert_eq!(rt; core.reply(place as u32), *reply);
+        assert_eq!(rt; core.lost(*made), false);
+    }
+    assert_eq!(rt; core.reply(row.made.len() as u32), None);
+    for (latch, holder) in row.holders {
+        assert_eq!(rt; core.holder(*latch), *holder);
+    }
+    for gone in row.lost {
+        assert_eq!(rt; core.lost(*gone), true);
+    }
+    Ok(())
+}
+
+#[test]
+fn the_get_that_commits_first_reads_0(rt: HostRuntime) -> Result<(), Fail> {
+    let world = small_world(rt.alloc())?;
+    let row = Row {
+        events: &SMALL,
+        made: &[(turn(2, 1), Some(0)), (turn(1, 1), None)],
+        holders: &[(0, 1), (1, 0), (2, 1)],
+        lost: &[],
+    };
+    check_row(&rt, rt.alloc(), &world, &row)?;
+    let quits = Row {
+        events: &SMALL_QUIT,
+        made: &[],
+        holders: &[(0, 0), (1, 0), (2, 0)],
+        lost: &[turn(1, 1)],
+    };
+    check_row(&rt, rt.alloc(), &world, &quits)
+}
+
+#[test]
+fn a_step_that_is_not_possible_says_so(rt: HostRuntime) -> Result<(), Fail> {
+    let world = small_world(rt.alloc())?;
+    let mut core = Core::open(rt.alloc(), &world)?;
+    assert_eq!(rt; core.step(SMALL[0]), Ok(()));
+    assert_eq!(rt; core.possible(SMALL[1]), false);
+    assert_eq!(rt; core.step(SMALL[1]), Err(StepFault::NotPossible));
+    assert_eq!(rt; core.holder(0), 2);
+    Ok(())
+}
+
+#[test]
+fn batches_and_queries_take_their_latches_in_order(rt: HostRuntime) -> Result<(), Fail> {
+    let world = large_world(rt.alloc())?;
+    let whole = Row {
+        events: &WHOLE,
+        made: &[
+            (turn(1, 1), None),
+            (turn(2, 1), None),
+            (turn(1, 2), Some(8)),
+            (turn(2, 2), Some(9)),
+        ],
+        holders: &[(0, 0), (1, 2), (2, 0), (3, 2), (4, 0)],
+        lost: &[],
+    };
+    check_row(&rt, rt.alloc(), &world, &whole)?;
+    let quits = Row {
+        events: &QUITS,
+        made: &[(turn(1, 2), Some(1))],
+        holders: &[(0, 0), (1, 0), (2, 1), (3, 1)],
+        lost: &[turn(1, 1)],
+    };
+    check_row(&rt, rt.alloc(), &world, &quits)?;
+    let strangers = Row {
+        events: &STRANGERS,
+        made: &[],
+        holders: &[(0, 0), (1, 0), (2, 0), (3, 0)],
+        lost: &[],
+    };
+    check_row(&rt, rt.alloc(), &world, &strangers)
+}
