@@ -1,0 +1,9 @@
+pub mod FileNameLemmas
+pub mod Validity
+pub mod Steps
+pub mod Texts
+pub mod Done
+pub mod LineLemmas
+pub mod PlanLemmas
+pub mod ScriptLemmas
+pub mod EndLemmas

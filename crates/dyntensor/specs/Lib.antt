@@ -1,0 +1,7 @@
+pub mod FileNames
+pub mod Workload
+pub mod Lines
+pub mod Outcome
+pub mod Stops
+pub mod Endings
+pub mod Going

@@ -1,0 +1,116 @@
+ghost use Rattle.std.specs.Prelude.{◌≡◌, ◌<◌, ◌++◌, ◌∷◌, [], codes, OnOk, length, map, ◌^◌};
+ghost use Rattle.std.specs.Fmt.{decimal};
+ghost use Rattle.std.specs.List.{join_with_byte};
+ghost use Rattle.dt_model.specs.Texts.{text_of};
+ghost use Rattle.dt_model.specs.Report.{call_rows, history_rows, turn_row, refusal_words};
+ghost use Rattle.sessions.specs.Running.{IsPlain};
+
+use dt_model::{Entry, Name, NoMemory, Refusal, Reply};
+use dt_text::{append, write_number, write_value};
+
+/// Appends the row of a call's reply, or of a call that found no memory.
+pub fn write_reply(number: u32, reply: &Option<Reply>, text: &mut Vec<u8>) -> Result<(), NoMemory>
+    requires plain { IsPlain reply.now }
+    ensures ok { OnOk result (text.new.items ≡ text.old.items ++ text_of (call_rows number reply.now)) }
+{
+    write_number(number, text)?;
+    match reply {
+        None => append(text, b" no memory\n"),
+        Some(Reply::Done) => append(text, b" ok\n"),
+        Some(Reply::Value(value)) => {
+            append(text, b" value ")?;
+            write_value(*value, text)?;
+            append(text, b"\n")
+        }
+        Some(Reply::Result(_)) => unreachable!(),
+    }
+}
+
+/// Appends a name between two texts.
+fn write_name(before: &str, name: &Name, after: &str, text: &mut Vec<u8>) -> Result<(), NoMemory>
+    ensures ok { OnOk result (text.new.items ≡ text.old.items ++ before.now ++ name.now ++ after.now) }
+{
+    append(text, before.as_bytes())?;
+    append(text, name.bytes())?;
+    append(text, after.as_bytes())
+}
+
+/// Appends a number behind a text.
+fn write_numbered(before: &str, number: u32, text: &mut Vec<u8>) -> Result<(), NoMemory>
+    ensures ok { OnOk result (text.new.items ≡ text.old.items ++ before.now ++ decimal number) }
+{
+    append(text, before.as_bytes())?;
+    write_number(number, text)
+}
+
+/// Appends two numbers.
+fn write_numbers(first: u32, second: u32, text: &mut Vec<u8>) -> Result<(), NoMemory>
+    ensures ok { OnOk result (text.new.items ≡ text.old.items ++ decimal first ++ 32 ∷ decimal second) }
+{
+    write_number(first, text)?;
+    write_numbered(" ", second, text)
+}
+
+/// Appends the words of a refusal.
+fn write_reason(refusal: &Refusal, text: &mut Vec<u8>) -> Result<(), NoMemory>
+    ensures ok { OnOk result (text.new.items ≡ text.old.items ++ join_with_byte 32 (refusal_words refusal.now)) }
+{
+    match refusal {
+        Refusal::Form { column } => write_numbered("form ", *column, text),
+        Refusal::Limit { column } => write_numbered("limit ", *column, text),
+        Refusal::Name { name } => write_name("name ", name, "", text),
+        Refusal::Rank { name, given, order } => {
+            write_name("rank ", name, " ", text)?;
+            write_numbers(*given, *order, text)
+        }
+        Refusal::Range { name, mode, dim } => {
+            write_name("range ", name, " ", text)?;
+            write_numbers(*mode, *dim, text)
+        }
+        Refusal::NotWhole => append(text, b"number whole"),
+        Refusal::TooLarge => append(text, b"number range"),
+        Refusal::Dimension { var, first, second } => {
+            write_name("dimension ", var, " ", text)?;
+            write_numbers(*first, *second, text)
+        }
+        Refusal::Repeated { var } => write_name("repeated ", var, "", text),
+        Refusal::Access { term } => write_numbered("access ", *term, text),
+        Refusal::Uncovered { term, var } => {
+            write_numbered("uncovered ", *term, text)?;
+            write_name(" ", var, "", text)
+        }
+    }
+}
+
+/// Appends the row of a line that is refused.
+pub fn write_refusal(number: u32, refusal: &Refusal, text: &mut Vec<u8>) -> Result<(), NoMemory>
+    ensures ok { OnOk result (text.new.items ≡ text.old.items ++ text_of ((decimal number ∷ codes "refused" ∷ refusal_words refusal.now) ∷ [])) }
+{
+    write_number(number, text)?;
+    append(text, b" refused ")?;
+    write_reason(refusal, text)?;
+    append(text, b"\n")
+}
+
+/// Appends the rows of the history.
+pub fn write_history(entries: &[Entry], text: &mut Vec<u8>) -> Result<(), NoMemory>
+    requires few { length entries.now < 2 ^ 32 }
+    ensures ok { OnOk result (text.new.items ≡ text.old.items ++ text_of (history_rows entries.now)) }
+{
+    append(text, b"history ")?;
+    write_number(entries.len() as u32, text)?;
+    append(text, b"\n")?;
+    write_turns(entries, text)
+}
+
+fn write_turns(entries: &[Entry], text: &mut Vec<u8>) -> Result<(), NoMemory>
+    ensures ok { OnOk result (text.new.items ≡ text.old.items ++ text_of (map turn_row entries.now)) }
+{
+    for entry in entries {
+        write_number(entry.turn.session, text)?;
+        append(text, b" ")?;
+        write_number(entry.turn.number, text)?;
+        append(text, b"\n")?;
+    }
+    Ok(())
+}
