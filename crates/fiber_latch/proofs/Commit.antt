@@ -1,0 +1,123 @@
+-- An entry is added to the history.
+use Rattle.std.proofs.Common.{◌≡◌, ◌≢◌, ℕ, ◌+◌, ◌<◌, ◌≤◌, List, [], ◌∷◌, ◌++◌, length, get_or, set, sym, refl, ap, ◌∙◌, subst, ⊎_elim, inl, arith, Option, All, length-set, get_or-set_other, get_or-set_same}
+use mathlib.Core.Option.{none}
+use Rattle.atomic_table.specs.Table.{State, step, keeps, Allows}
+use Rattle.dt_model.specs.declared.calls.Entry.{Entry}
+use Rattle.fiber_latch.specs.declared.view.Hold.{Hold}
+use Rattle.fiber_latch.specs.declared.view.Role.{Role}
+use Rattle.fiber_latch.specs.declared.view.Role.TheVariants.{Spent, Pass, Sessions}
+use Rattle.fiber_latch.specs.declared.view.Terms.{Terms}
+use Rattle.fiber_latch.specs.declared.view.View.{View}
+use Rattle.fiber_latch.specs.declared.rule.Kept as kept
+use Rattle.fiber_latch.specs.declared.rule.Lain.{Lain}
+use Rattle.fiber_latch.specs.Latch.{In, Touches, OwnsAs, IsSession, Live, Marks, Keeps, Knows, Keeping, Knowing, Foreign, ViewOk, Lawful, CanCommit, Ruled, Commits}
+use Rattle.fiber_latch.proofs.Running.{run_commits}
+use Rattle.fiber_latch.proofs.Frame.{latch_stays, session_lives, owner_is_session}
+use Rattle.std.proofs.Common.{◌%◌, ◌^◌}
+use Rattle.fiber_latch.proofs.Take.{no_olds}
+use Rattle.fiber_latch.proofs.Steps.{each_stays, alone_stays, owned_stays}
+use Rattle.fiber_latch.proofs.Prefix.{none_in, in_append, nothing_behind, append_more}
+use Rattle.fiber_latch.proofs.Keepers.{marks_listed, marks_there, keeps_known, pass_keeps}
+use Rattle.std.proofs.Common.{length-append}
+
+once : (x n : ℕ) → n ≡ x + 1 → x < 18446744073709551615 → (x + 1) % 2 ^ 64 ≡ n
+once x n e h = omega arith
+
+module _ {C : Type 0} (good : List Entry → ℕ → kept.Kept C → Type 0) (terms : Terms) where
+  module _ (slots id : ℕ) (v : View) (c : List (ℕ × Option (Lain C))) (e : Entry) (can : CanCommit terms v e) where
+    owns : OwnsAs v.role e.turn.session
+    owns = can.owns
+
+    session : IsSession v.role
+    session = owner_is_session v.role e.turn.session owns
+
+    touched : (l : ℕ) → Touches terms l e → Keeps v l
+    touched l t = let h = can.held l t in marks_there Keeping v.role v.held l session (h.0, h.1, h.2, subst Keeping (sym h.4) tt)
+
+    -- a latch that the seat keeps is known to no other
+    apart : (st : State (Option (Lain C)) View) (r : Ruled terms good st) → ViewOk terms r.history r.owner r.keeper st.words r.name id v → (j l : ℕ) (u : View) → j ≢ id
+        → ViewOk terms r.history r.owner r.keeper st.words r.name j u → Live u.role → Keeps v l → Knows u l → ⊥
+    apart st r ok j l u n u_ok live keep know = cases u.role refl
+      where
+        mine : (h : Hold) × In h v.held × (h.latch ≡ l) × Keeping h.mark
+        mine = marks_listed Keeping v.role v.held l session keep
+
+        mine_at : r.owner (get_or st.words l 0) ≡ id
+        mine_at = let x = ok.holds mine.0 mine.1 in ap r.owner (sym (ap (λ (k : ℕ). get_or st.words k 0) mine.2) ∙ x.3) ∙ ok.mine mine.0.session x.1
+
+        cases : (role : Role) → u.role ≡ role → ⊥
+        cases Spent q = subst Live q live
+        cases (Pass w) q = n (sym (u_ok.keeps l (pass_keeps Keeping u.role u.held l (q ∙ ap Pass (subst (λ (z : Role). Marks Knowing z u.held l) q know)))) ∙ ok.keeps l keep)
+        cases (Sessions f t) q =
+            let g = subst (λ (z : Role). Marks Knowing z u.held l) q know in
+            let x = u_ok.holds g.0 g.1 in
+            n (sym (ap r.owner (sym (ap (λ (k : ℕ). get_or st.words k 0) g.2) ∙ x.3) ∙ u_ok.mine g.0.session x.1) ∙ mine_at)
+
+    pub commit_moves : Allows (Ruled terms good) slots id (v, c) (terms.end + 1) (λ n. (n + 1) % 2 ^ 64) (Commits e (step slots (terms.end + 1) 1 0 none) (v, c))
+    commit_moves st r deep at small =
+        let ok = r.each_view id v at (session_lives v.role session) in
+        let i : ℕ = terms.end + 1 in
+        let n' : ℕ = (get_or st.words i 0 + 1) % 2 ^ 64 in
+        let H : List Entry = r.history in
+        let H' : List Entry = H ++ e ∷ [] in
+        let nothing : ok.sees.0 ≡ [] = none_in ok.sees.0 (λ d q. (ok.sees.2 d q).latch terms.end (keeps_known v.role v.held terms.end (touched terms.end (inl refl))) (inl refl)) in
+        let all : H ≡ v.seen = ok.sees.1 ∙ (ap (λ (z : List Entry). v.seen ++ z) nothing ∙ sym (nothing_behind v.seen)) in
+        let w : View = record v { seen = v.seen ++ e ∷ [] } in
+        let words' : List ℕ = set st.words i n' in
+        let at_latch : (l : ℕ) → l ≤ terms.end → get_or words' l 0 ≡ get_or st.words l 0 = λ l b. get_or-set_other st.words i l n' 0 (λ (q : l ≡ i). omega arith) in
+        let counted : n' ≡ length H' = let x : ℕ = get_or st.words i 0 in let a : x ≡ length H = r.clock in let b : length H ≡ length v.seen = ap length all in let room = can.room in let d : length H' ≡ length H + 1 = length-append H (e ∷ []) in once x (length H') (omega arith) (omega arith) in (
+          w,
+          keeps,
+          tt,
+          record {
+            history = H';
+            owner = r.owner;
+            keeper = r.keeper;
+            name = r.name;
+            journal = r.journal;
+            wide = length-set st.words i n' ∙ r.wide;
+            deep = r.deep;
+            clock = get_or-set_same st.words i n' 0 (let x = r.wide in omega arith) ∙ counted;
+            law = subst (λ (z : List Entry). Lawful terms (z ++ e ∷ [])) (sym all) (can.law (subst (Lawful terms) all r.law));
+            run = run_commits terms st.words H r.run r.journal e n' (ok.within e.turn.session owns).0 can.valid
+                (λ l t. let h = can.held l t in let x = ok.holds h.0 h.1 in
+                subst (λ (p : ℕ × ℕ). (p.0 ≤ terms.end) × (get_or st.words p.0 0 ≡ p.1)) (λ i. (h.2 i, h.3 i)) (x.0, x.3))
+                (subst (All (λ f. f.turn.session ≡ e.turn.session → f.turn.number < e.turn.number)) (sym all) can.above);
+            each_view = each_stays (λ (j : ℕ) (u : View). Live u.role → ViewOk terms H' r.owner r.keeper words' r.name j u) st.views id w
+                (λ _. record {
+                  named = ok.named;
+                  ends = ok.ends;
+                  sees = ([], ap (λ (z : List Entry). z ++ e ∷ []) all ∙ nothing_behind (v.seen ++ e ∷ []), λ d q. absurd q);
+                  mine = ok.mine;
+                  within = ok.within;
+                  keeps = ok.keeps;
+                  holds = λ h q. let x = ok.holds h q in (x.0, x.1, x.2, at_latch h.latch x.0 ∙ x.3);
+                  falls = ok.falls;
+                  olds = no_olds terms w v.olds can.idle;
+                })
+                (λ j u m q live. let u_ok = r.each_view j u q live in record {
+                  named = u_ok.named;
+                  ends = u_ok.ends;
+                  sees = (
+                    u_ok.sees.0 ++ e ∷ [],
+                    ap (λ (z : List Entry). z ++ e ∷ []) u_ok.sees.1 ∙ append_more u.seen u_ok.sees.0 (e ∷ []),
+                    λ d p. ⊎_elim (λ (a : In d u_ok.sees.0). u_ok.sees.2 d a)
+                        (λ (a : In d (e ∷ [])). ⊎_elim (λ (b : d ≡ e). subst (Foreign terms u) (sym b) record {
+                          session = λ o. m (sym (u_ok.mine e.turn.session o) ∙ ok.mine e.turn.session owns);
+                          latch = λ l k t. apart st r ok j l u m u_ok live (touched l t) k;
+                        }) (λ (b : ⊥). absurd b) a)
+                        (in_append d u_ok.sees.0 (e ∷ []) p),
+                  );
+                  mine = u_ok.mine;
+                  within = u_ok.within;
+                  keeps = u_ok.keeps;
+                  holds = λ h p. let x = u_ok.holds h p in (x.0, x.1, x.2, at_latch h.latch x.0 ∙ x.3);
+                  falls = u_ok.falls;
+                  olds = u_ok.olds;
+                });
+            owned = owned_stays st.views r.owner terms.sessions id v w at refl r.owned;
+            each_latch = λ l b. latch_stays good terms r.owner (r.keeper l) st.words words' st.homes st.homes st.views id v w l at session (at_latch l b) refl session (λ h q _. q) (r.each_latch l b);
+            alone = alone_stays st.views id v w at (λ f. f) r.alone;
+          },
+          refl,
+        )

@@ -1,0 +1,140 @@
+-- The steps of the table are the machine's.
+use Rattle.std.proofs.Common.{◌≡◌, ◌≢◌, ℕ, zero, suc, ◌+◌, ◌<◌, ◌≤◌, ◌==◌, ◌||◌, List, [], ◌∷◌, ◌++◌, length, get_or, set, sym, refl, ap, ◌∙◌, subst, inl, inr, arith, Bool, true, false, if◌then◌else◌, eq-eqb, ne_eqb, nat_le, nat_lt, le-leb, get_or-set_other, get_or-set_same, IsTrue, All}
+use Rattle.std.proofs.lemmas.Bool.Decides.{nat_tests}
+use mathlib.Core.Logic.{dite}
+use native.Mathlib.Decide.{ℕ_discrete, dec_le}
+use Rattle.commit_core.specs.Machine.{Machine, Reached, with_holder, content_after, commit_needs, journal_latch}
+use Rattle.commit_core.specs.Machine.Reached.{opened, takes, commits, gives}
+use Rattle.commit_core.proofs.Cuts.{content_after-cut, fold_of-push}
+use Rattle.dt_model.specs.declared.calls.Entry.{Entry}
+use Rattle.dt_model.specs.Contents.{Contents}
+use Rattle.dt_model.specs.Latches.{needs}
+use Rattle.dt_model.specs.declared.replies.World.{World}
+use Rattle.dt_model.specs.Runs.{base_of, fold_of, cut}
+use Rattle.dt_model.specs.Tensors.{latch_count}
+use Rattle.dt_model.specs.Verdicts.{call_is_valid}
+use Rattle.fiber_latch.specs.declared.view.Terms.{Terms}
+use Rattle.fiber_latch.specs.Latch.{holders, machine_at, Touches}
+
+pub inside_is : (end : ℕ) (words : List ℕ) (l : ℕ) → l ≤ end → holders end words l ≡ get_or words l 0
+inside_is end words l b = ap (λ (t : Bool). if t then get_or words l 0 else 0) (le-leb l end b)
+
+pub outside_is : (end : ℕ) (words : List ℕ) (l : ℕ) → end < l → holders end words l ≡ 0
+outside_is end words l b = ap (λ (t : Bool). if t then get_or words l 0 else 0) (not_le l end b)
+  where
+    not_le : (a c : ℕ) → c < a → nat_le a c ≡ false
+    not_le a c h = grind (arith, nat_tests)
+
+-- a latch's word changes
+pub holders_set : (end : ℕ) (words : List ℕ) (l s : ℕ) → l ≤ end → l < length words → holders end (set words l s) ≡ with_holder (holders end words) l s
+holders_set end words l s b long = λ i k. each k i
+  where
+    each : (k : ℕ) → holders end (set words l s) k ≡ with_holder (holders end words) l s k
+    each k = dite (ℕ_discrete k l)
+        (λ (q : k ≡ l). subst (λ (n : ℕ). holders end (set words l s) n ≡ with_holder (holders end words) l s n) (sym q)
+        (inside_is end (set words l s) l b ∙ get_or-set_same words l s 0 long ∙ sym (ap (λ (t : Bool). if t then s else holders end words l) (eq-eqb l l refl))))
+        (λ (q : k ≢ l). dite (dec_le k end)
+        (λ (y : k ≤ end). inside_is end (set words l s) k y ∙ get_or-set_other words l k s 0 q ∙ sym (inside_is end words k y) ∙ sym (ap (λ (t : Bool). if t then s else holders end words k) (ne_eqb k l q)))
+        (λ (n : ¬ (k ≤ end)). outside_is end (set words l s) k (omega arith) ∙ sym (outside_is end words k (omega arith)) ∙ sym (ap (λ (t : Bool). if t then s else holders end words k) (ne_eqb k l q))))
+
+-- a word past the latches changes
+pub holders_past : (end : ℕ) (words : List ℕ) (i n : ℕ) → end < i → holders end (set words i n) ≡ holders end words
+holders_past end words i n past = λ j k. each k j
+  where
+    each : (k : ℕ) → holders end (set words i n) k ≡ holders end words k
+    each k = dite (dec_le k end)
+        (λ (y : k ≤ end). inside_is end (set words i n) k y ∙ get_or-set_other words i k n 0 (λ (q : k ≡ i). omega arith) ∙ sym (inside_is end words k y))
+        (λ (m : ¬ (k ≤ end)). outside_is end (set words i n) k (omega arith) ∙ sym (outside_is end words k (omega arith)))
+
+module _ (terms : Terms) (words : List ℕ) (H : List Entry) (run : Reached terms.world (machine_at terms words H)) (journal : terms.end ≡ latch_count terms.world.decls) where
+  -- the words are the same
+  pub run_stays : (words' : List ℕ) → words' ≡ words → Reached terms.world (machine_at terms words' H)
+  run_stays words' same = subst (λ (ws : List ℕ). Reached terms.world (machine_at terms ws H)) (sym same) run
+
+  pub run_takes : (s l : ℕ) → l ≤ terms.end → l < length words → 0 < s → get_or words l 0 ≡ 0 → ((k : ℕ) → k ≤ terms.end → get_or words k 0 ≡ s → k < l) → Reached terms.world (machine_at terms (set words l s) H)
+  run_takes s l inside long some_session free above =
+      subst (λ (f : ℕ → ℕ). Reached terms.world (record { holder = f; content = λ k. cut terms.world.decls (fold_of terms.world H) k; history = H })) (sym (holders_set terms.end words l s inside long))
+      (takes (machine_at terms words H) s l run record {
+        session = some_session;
+        latch = subst (λ (n : ℕ). l ≤ n) journal inside;
+        free = inside_is terms.end words l inside ∙ free;
+        above = λ k e. dite (dec_le k terms.end)
+            (λ (y : k ≤ terms.end). above k y (sym (inside_is terms.end words k y) ∙ e))
+            (λ (n : ¬ (k ≤ terms.end)). let z = outside_is terms.end words k (omega arith) in absurd (omega arith));
+      })
+
+  pub run_gives : (s l : ℕ) → l ≤ terms.end → l < length words → 0 < s → get_or words l 0 ≡ s → Reached terms.world (machine_at terms (set words l 0) H)
+  run_gives s l inside long some_session held =
+      subst (λ (f : ℕ → ℕ). Reached terms.world (record { holder = f; content = λ k. cut terms.world.decls (fold_of terms.world H) k; history = H })) (sym (holders_set terms.end words l 0 inside long))
+      (gives (machine_at terms words H) s l run record { session = some_session; held = inside_is terms.end words l inside ∙ held })
+
+  -- an entry comes, whose session holds all that its commit needs
+  pub run_commits : (e : Entry) (n : ℕ) → 0 < e.turn.session → IsTrue (call_is_valid terms.world.decls e.call) → ((l : ℕ) → Touches terms l e → (l ≤ terms.end) × (get_or words l 0 ≡ e.turn.session))
+      → All (λ f. f.turn.session ≡ e.turn.session → f.turn.number < e.turn.number) H → Reached terms.world (machine_at terms (set words (terms.end + 1) n) (H ++ e ∷ []))
+  run_commits e n some_session valid holds above =
+      subst (λ (m : Machine). Reached terms.world m) (λ i. record {
+        holder = sym (holders_past terms.end words (terms.end + 1) n (omega arith)) i;
+        content = λ l. same l i;
+        history = H ++ e ∷ [];
+      })
+      (commits (machine_at terms words H) e run record {
+        session = some_session;
+        valid = valid;
+        holds = λ l t. let h = holds l (touched l t) in inside_is terms.end words l h.0 ∙ h.1;
+        above = above;
+      })
+    where
+      same : (l : ℕ) → content_after terms.world.decls e.call l (cut terms.world.decls (fold_of terms.world H) l) ≡ cut terms.world.decls (fold_of terms.world (H ++ e ∷ [])) l
+      same l = content_after-cut terms.world.decls (fold_of terms.world H) e.call l ∙ ap (λ (m : Contents). cut terms.world.decls m l) (sym (fold_of-push terms.world H e))
+
+      touched : (l : ℕ) → IsTrue (commit_needs terms.world.decls e.call l) → Touches terms l e
+      touched l t = go (needs terms.world.decls e.call l) refl t
+        where
+          go : (b : Bool) → needs terms.world.decls e.call l ≡ b → IsTrue (b || l == journal_latch terms.world.decls) → Touches terms l e
+          go true is t = inr (subst IsTrue (sym is) refl)
+          go false is t = dite (ℕ_discrete l terms.end) (λ (q : l ≡ terms.end). inl q)
+              (λ (q : l ≢ terms.end). let f : (l == journal_latch terms.world.decls) ≡ false = ne_eqb l (journal_latch terms.world.decls) (λ (c : l ≡ journal_latch terms.world.decls). q (c ∙ sym journal)) in absurd (cc (f, t)))
+
+-- ---- the first words: session 1 has taken each latch, in ascending order
+
+abbrev upto : ℕ → ℕ → ℕ
+upto m k = if nat_lt k m then 1 else 0
+
+upto_in : (m k : ℕ) → k < m → upto m k ≡ 1
+upto_in m k b = ap (λ (t : Bool). if t then 1 else 0) (is_lt k m b)
+  where
+    is_lt : (a c : ℕ) → a < c → nat_lt a c ≡ true
+    is_lt a c h = grind (arith, nat_tests)
+
+upto_out : (m k : ℕ) → m ≤ k → upto m k ≡ 0
+upto_out m k b = ap (λ (t : Bool). if t then 1 else 0) (not_lt k m b)
+  where
+    not_lt : (a c : ℕ) → c ≤ a → nat_lt a c ≡ false
+    not_lt a c h = grind (arith, nat_tests)
+
+abbrev at_first : World → (ℕ → ℕ) → Machine
+at_first w f = record { holder = f; content = λ l. cut w.decls (base_of w) l; history = [] }
+
+taken_upto : (w : World) (m : ℕ) → m ≤ suc (journal_latch w.decls) → Reached w (at_first w (upto m))
+taken_upto w zero b = subst (λ (f : ℕ → ℕ). Reached w (at_first w f)) (λ i k. sym (upto_out 0 k (omega arith)) i) opened
+taken_upto w (suc m) b = subst (λ (f : ℕ → ℕ). Reached w (at_first w f)) (λ i k. each k i)
+    (takes (at_first w (upto m)) 1 m (taken_upto w m (omega arith)) record {
+      session = omega arith;
+      latch = omega arith;
+      free = upto_out m m (omega arith);
+      above = λ k e. dite (dec_le (suc k) m) (λ (y : suc k ≤ m). y) (λ (n : ¬ (suc k ≤ m)). let z = upto_out m k (omega arith) in absurd (omega arith));
+    })
+  where
+    each : (k : ℕ) → with_holder (upto m) m 1 k ≡ upto (suc m) k
+    each k = dite (ℕ_discrete k m)
+        (λ (q : k ≡ m). ap (λ (t : Bool). if t then 1 else upto m k) (eq-eqb k m q) ∙ sym (upto_in (suc m) k (omega arith)))
+        (λ (q : k ≢ m). ap (λ (t : Bool). if t then 1 else upto m k) (ne_eqb k m q)
+        ∙ dite (dec_le (suc k) m) (λ (y : suc k ≤ m). upto_in m k y ∙ sym (upto_in (suc m) k (omega arith))) (λ (n : ¬ (suc k ≤ m)). upto_out m k (omega arith) ∙ sym (upto_out (suc m) k (omega arith))))
+
+pub first_run : (terms : Terms) (words : List ℕ) → terms.end ≡ latch_count terms.world.decls → ((l : ℕ) → l ≤ terms.end → get_or words l 0 ≡ 1) → Reached terms.world (machine_at terms words [])
+first_run terms words journal ones = subst (λ (f : ℕ → ℕ). Reached terms.world (at_first terms.world f)) (λ i k. each k i) (taken_upto terms.world (suc terms.end) (subst (λ (n : ℕ). suc terms.end ≤ suc n) journal (omega arith)))
+  where
+    each : (k : ℕ) → upto (suc terms.end) k ≡ holders terms.end words k
+    each k = dite (dec_le k terms.end)
+        (λ (y : k ≤ terms.end). upto_in (suc terms.end) k (omega arith) ∙ sym (ones k y) ∙ sym (inside_is terms.end words k y))
+        (λ (n : ¬ (k ≤ terms.end)). upto_out (suc terms.end) k (omega arith) ∙ sym (outside_is terms.end words k (omega arith)))

@@ -1,0 +1,12 @@
+pub mod Views
+pub mod Rule
+pub mod Steps
+pub mod Conditions
+pub mod Openings
+pub mod Latch
+pub mod Seats
+pub mod Sitting
+pub mod Leaving
+pub mod Trial
+pub mod TrialGood
+pub mod Codes

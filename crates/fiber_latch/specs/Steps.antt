@@ -1,0 +1,122 @@
+-- What each kind of atomic step does to the seat that makes it, and tells it.
+use Rattle.std.specs.Prelude.{◌≡◌, ◌≢◌, ℕ, ◌-◌, ◌≤◌, ◌==◌, List, [], ◌∷◌, ◌++◌, Bool, true, false, Option, Some, None}
+use Rattle.atomic_table.specs.Table.{Me, Step, rest}
+use Rattle.dt_model.specs.declared.calls.Call.TheVariants.{Get}
+use Rattle.dt_model.specs.declared.calls.Entry.{Entry}
+use Rattle.fiber_latch.specs.declared.view.Mark.{Mark}
+use Rattle.fiber_latch.specs.declared.view.Mark.TheVariants.{Taken, Kept, Parted}
+use Rattle.fiber_latch.specs.declared.view.Hold.{Hold}
+use Rattle.fiber_latch.specs.declared.view.Role.{Role}
+use Rattle.fiber_latch.specs.declared.view.Role.TheVariants.{Spent, Pass, Sessions}
+use Rattle.fiber_latch.specs.declared.view.Terms.{Terms}
+use Rattle.fiber_latch.specs.declared.view.View.{View}
+use Rattle.fiber_latch.specs.declared.view.TableName.{TableName}
+use Rattle.fiber_latch.specs.declared.rule.Kept as kept
+use Rattle.fiber_latch.specs.declared.rule.Lain.{Lain}
+use Rattle.fiber_latch.specs.Views.{id_of, OwnsAs, Lawful, hold, behind, pass_view}
+use Rattle.fiber_latch.specs.Rule.{OldsOk}
+
+-- ---- take and give
+
+-- the latch is listed, before all others
+abbrev pub listed : View → ℕ → ℕ → Mark → List Hold → View
+listed v l s m hs = record v { held = hold l s m ∷ hs }
+
+-- a take tells the slot's value and pass, or the session that it found, which is none of the seat's
+abbrev pub Takes : {C : Type 0} → (Terms → List Entry → ℕ → kept.Kept C → Type 0) → Step (Option (Lain C)) → Me (Option (Lain C)) View → ℕ → Me (Option (Lain C)) View → Type 0
+Takes {C} good st me n me' =
+    (n ≡ 0 → (y : Lain C) × (u : View) × ((me' ≡ (listed me.0 st.word st.second Taken me.0.held, (st.word, Some y) ∷ me.1)) × (y.pass.views ≡ u ∷ []) × (y.pass.table_id ≡ id_of me.0.table) × (u.role ≡ Pass st.word) × good me.0.terms u.seen st.word y.kept))
+    × (n ≢ 0 → (me' ≡ (record me.0 { met = me.0.met ++ (st.word, n) ∷ [] }, me.1)) × (¬ OwnsAs me.0.role n) × (n ≤ me.0.terms.sessions))
+
+-- the latch that was taken last is listed no more
+abbrev pub Gives : {C : Type 0} → Step (Option (Lain C)) → Me (Option (Lain C)) View → ℕ → Me (Option (Lain C)) View → Type 0
+Gives st me n me' = me' ≡ (record me.0 { held = behind me.0.held }, rest me.1)
+
+-- ---- meet, part and look
+
+-- the longer of two beginnings of one history
+abbrev pub longer : List Entry → List Entry → List Entry
+longer [] b = b
+longer (x ∷ xs) [] = x ∷ xs
+longer (x ∷ xs) (y ∷ ys) = x ∷ longer xs ys
+
+-- the latch that was taken last gets this mark
+abbrev pub retop : Mark → List Hold → List Hold
+retop m [] = []
+retop m (h ∷ hs) = hold h.latch h.session m ∷ hs
+
+-- the seat takes in the pass of the latch that it took last
+abbrev pub met_pass : View → View → View
+met_pass v u = record v { held = retop Kept v.held; seen = longer v.seen u.seen; olds = Some (record { mine = v.seen; was = v.role; theirs = u.seen; other = u.role }) }
+
+-- a look at the clock tells what the last join met, and that what was seen is legal
+abbrev pub Looks : {C : Type 0} → Step (Option (Lain C)) → Me (Option (Lain C)) View → ℕ → Me (Option (Lain C)) View → Type 0
+Looks st me n me' = (me' ≡ (record me.0 { olds = None }, me.1)) × (OldsOk me.0.terms me.0 me.0.olds × Lawful me.0.terms me.0.seen)
+
+abbrev pub settled : View → View
+settled v = record v { olds = None }
+
+abbrev pub top_latch : List Hold → ℕ
+top_latch [] = 0
+top_latch (h ∷ hs) = h.latch
+
+-- the seat parts with the latch that it took last, and its new pass has what the seat has seen
+abbrev pub parted : View → View
+parted v = record v { held = retop (Parted v.seen) v.held }
+
+abbrev pub new_pass : View → View
+new_pass v = pass_view v.table v.terms (top_latch v.held) v.seen
+
+-- ---- commit
+
+-- one entry more is seen
+abbrev pub Commits : {C : Type 0} → Entry → Step (Option (Lain C)) → Me (Option (Lain C)) View → ℕ → Me (Option (Lain C)) View → Type 0
+Commits e st me n me' = me' ≡ (record me.0 { seen = me.0.seen ++ e ∷ [] }, me.1)
+
+abbrev pub no_entry : Entry
+no_entry = record { turn = record { session = 0; number = 0 }; call = Get (record { tensor = 0; at = [] }) }
+
+-- ---- seats of sessions are cut and joined
+
+abbrev pub low_part : ℕ → Role → Role
+low_part a Spent = Spent
+low_part a (Pass w) = Pass w
+low_part a (Sessions f t) = Sessions f (a - 1)
+
+abbrev pub high_part : ℕ → Role → Role
+high_part a Spent = Spent
+high_part a (Pass w) = Pass w
+high_part a (Sessions f t) = Sessions a t
+
+-- the sessions from a on go to a new seat
+abbrev pub lower : ℕ → View → View
+lower a v = record v { role = low_part a v.role }
+
+abbrev pub upper : ℕ → View → View
+upper a v = record v { role = high_part a v.role; held = []; met = []; olds = None }
+
+abbrev pub joined_role : Role → Role → Role
+joined_role (Sessions f t) (Sessions g u) = Sessions f u
+joined_role r q = r
+
+-- the seat of the sessions that follow is taken in
+abbrev pub joined : View → View → View
+joined v u = record v { role = joined_role v.role u.role; seen = longer v.seen u.seen; met = v.met ++ u.met; olds = Some (record { mine = v.seen; was = v.role; theirs = u.seen; other = u.role }) }
+
+-- ---- opening
+
+abbrev pub keep_if : Bool → Hold → Hold
+keep_if true h = hold h.latch h.session Kept
+keep_if false h = h
+
+abbrev pub keep_at : ℕ → List Hold → List Hold
+keep_at l [] = []
+keep_at l (h ∷ hs) = keep_if (h.latch == l) h ∷ keep_at l hs
+
+-- the empty slot of a latch that was opened comes into the seat's hand
+abbrev pub Opens : {C : Type 0} → Step (Option (Lain C)) → Me (Option (Lain C)) View → ℕ → Me (Option (Lain C)) View → Type 0
+Opens st me n me' = me' ≡ (record me.0 { held = keep_at st.word me.0.held }, (st.word, None) ∷ me.1)
+
+-- the first seat learns which table it is
+abbrev pub Learns : {C : Type 0} → TableName → Step (Option (Lain C)) → Me (Option (Lain C)) View → ℕ → Me (Option (Lain C)) View → Type 0
+Learns z st me n me' = me' ≡ (record me.0 { fresh = false; table = z }, me.1)
