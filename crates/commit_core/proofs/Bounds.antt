@@ -1,8 +1,9 @@
 -- A valid call needs only latches of the World's tensors.
 use Rattle.std.proofs.Common.{◌≡◌, ℕ, ◌+◌, ◌-◌, ◌*◌, ◌/◌, ◌<◌, ◌≤◌, Bool, true, false, List, [], ◌∷◌, length, get_or, refl, ap, arith, subst, Option, Some, None, zero, suc, inl, inr, take, sum_by, IsTrue}
-use Rattle.std.specs.Prelude.{◌⊎◌, ◌&&◌, ◌||◌, ◌==◌, nat_le, nat_lt, slice_get, slice_index, position, nat_eq, if◌then◌else◌}
+use Rattle.std.specs.Prelude.{◌&&◌, ◌==◌, nat_le, nat_lt, slice_get, slice_index, position, nat_eq, if◌then◌else◌}
 use Rattle.std.specs.List.{list_any, list_all, position_or_len}
 use Rattle.std.specs.Cmp.Lexicographic.{pointwise}
+use Rattle.std.proofs.lemmas.Bool.{or_cases}
 use Rattle.std.proofs.lemmas.Bool.Decides.{nat_tests, Decides-eqb}
 use Rattle.std.proofs.lemmas.Option.{get_or_from_slice_get}
 use Rattle.std.proofs.Math.Nat.{div-lt_iff_lt-mul, lt-mul-div-succ}
@@ -61,10 +62,6 @@ cell_latch_below d cell valid h =
     let all : sum_by (λ y. y.latches) (take cell.tensor d.tensors) + x.0.latches ≤ latch_count d = first_latch-le d cell.tensor x.0 l at in
     let is : latch_of_cell d cell ≡ first_latch d cell.tensor + slice_index cell.at 0 / width_in (slice_index x.0.dims 0) x.0.latches = ap (λ o. first_latch d cell.tensor + slice_index cell.at 0 / width_in (slice_index (dims_in o) 0) (latches_in o)) x.1 in
     omega arith
-
-or_cases : (a b : Bool) → (a || b) ≡ true → (a ≡ true) ⊎ (b ≡ true)
-or_cases true b e = inl refl
-or_cases false b e = inr e
 
 updates_below : (d : Decls) (us : List Update) (l : ℕ) → IsTrue (decls_are_valid d) → list_all (λ u. cell_is_valid d (update_cell u)) us ≡ true → list_any (λ u. latch_of_cell d (update_cell u) == l) us ≡ true → l < latch_count d
 updates_below d [] l valid all h = cc

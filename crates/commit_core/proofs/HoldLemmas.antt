@@ -40,6 +40,13 @@ without_own f s k e = let t : (f k == s) ≡ true = grind (arith, nat_tests) in 
 pub without_other : (f : ℕ → ℕ) (s k : ℕ) → f k ≢ s → without_session f s k ≡ f k
 without_other f s k n = let t : (f k == s) ≡ false = grind (arith, nat_tests) in rw t refl
 
+-- without a session's own nobody is that session
+pub without_nobody : (f : ℕ → ℕ) (s : ℕ) → 1 ≤ s → (k : ℕ) → without_session f s k ≢ s
+without_nobody f s some k e = elim (cases_eq (f k) s) [
+  | inl own ↦ let nobody : without_session f s k ≡ 0 = without_own f s k own in absurd (omega arith)
+  | inr other ↦ other (sym (without_other f s k other) ∙ e)
+]
+
 -- a needed latch below is held
 pub needed_is_held : (needed : Bool) (h s : ℕ) → (not needed || h == s) ≡ true → needed ≡ true → h ≡ s
 needed_is_held needed h s e n = grind (arith, nat_tests)
@@ -243,11 +250,7 @@ Holds-last w holder seat s l x some own none open' h = Holds-finish w holder (wi
 
 -- after a quit
 pub Holds-quit : (w : World) (holder : ℕ → ℕ) (seat : ℕ → Seat) (s : ℕ) (x : Seat) → 1 ≤ s → x.committed ≡ false → Holds w holder seat → Holds w (without_session holder s) (with_seat seat s x)
-Holds-quit w holder seat s x some open' h = Holds-finish w holder (without_session holder s) seat s x
-    (λ k e. elim (cases_eq (holder k) s) [
-      | inl own ↦ let nobody : without_session holder s k ≡ 0 = without_own holder s k own in absurd (omega arith)
-      | inr other ↦ other (sym (without_other holder s k other) ∙ e)
-    ])
+Holds-quit w holder seat s x some open' h = Holds-finish w holder (without_session holder s) seat s x (without_nobody holder s some)
     (λ k e. without_own holder s k e) (λ k e. without_other holder s k e) open' h
 
 pub Holds-opened : (w : World) → Holds w (λ l. 0) (λ s. seat_after w s 0)

@@ -13,4 +13,7 @@ pub mod Bounds
 pub mod MadeLemmas
 pub mod Reaching
 pub mod GoingOn
-pub mod Sounds
+pub mod Parts
+pub mod StepLemmas
+pub mod KeptLemmas
+pub mod WholeLemmas

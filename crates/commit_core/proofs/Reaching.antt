@@ -1,7 +1,7 @@
 -- The core's events are takes, commits and gives of the machine.
 use Rattle.std.proofs.Common.{◌≡◌, ℕ, ◌+◌, ◌<◌, ◌≤◌, Bool, true, false, refl, ap, sym, ◌∙◌, arith, subst, Some, zero, suc, inl, inr}
-use Rattle.std.specs.Prelude.{◌⊎◌, ◌≢◌, ◌&&◌, ◌||◌, ◌==◌, if◌then◌else◌, nat_lt, All}
-use Rattle.std.proofs.lemmas.Bool.{cases_eq}
+use Rattle.std.specs.Prelude.{◌≢◌, ◌&&◌, ◌==◌, if◌then◌else◌, nat_lt, All}
+use Rattle.std.proofs.lemmas.Bool.{cases_eq, or_cases}
 use Rattle.std.proofs.lemmas.Bool.Decides.{nat_tests, Decides-eqb}
 use Rattle.dt_model.specs.declared.calls.Call.{Call}
 use Rattle.dt_model.specs.declared.calls.Entry.{Entry}
@@ -10,16 +10,12 @@ use Rattle.dt_model.specs.Latches.{needs}
 use Rattle.dt_model.specs.Worlds.{IsValid}
 use Rattle.dt_model.specs.Runs.{call_of}
 use Rattle.commit_core.specs.declared.events.Seat.{Seat}
-use Rattle.commit_core.specs.Machine.{Machine, Reached, takes, commits, gives, taken, committed, given, journal_latch, commit_needs, with_holder}
+use Rattle.commit_core.specs.Machine.{Machine, Reached, gives, Gives, nothing, one_more, CanTake, CanCommit, journal_latch, commit_needs, with_holder}
 use Rattle.commit_core.specs.Events.{holds_below, without_session}
 use Rattle.commit_core.proofs.Bounds.{needs_below}
 use Rattle.commit_core.proofs.Calls.{call_is_valid_at}
 use Rattle.commit_core.proofs.Steps.{is_session}
 use Rattle.commit_core.proofs.HoldLemmas.{Holds, Takes, holds_below-at, holder_same, holder_other}
-
-or_cases : (a b : Bool) → (a || b) ≡ true → (a ≡ true) ⊎ (b ≡ true)
-or_cases true b e = inl refl
-or_cases false b e = inr e
 
 -- what a commit needs is among the World's latches
 needed_within : (w : World) (s n : ℕ) (call : Call) (l : ℕ) → IsValid w → call_of w s n ≡ Some call → commit_needs w.decls call l ≡ true → l < journal_latch w.decls + 1
@@ -28,10 +24,11 @@ needed_within w s n call l valid is need = elim (or_cases (needs w.decls call l)
   | inr last ↦ let same : l ≡ journal_latch w.decls = (Decides-eqb l (journal_latch w.decls)).0 last in omega arith
 ]
 
-pub Reached-take : (w : World) (m : Machine) (seat : ℕ → Seat) (s l : ℕ) (call : Call) → call_of w s (seat s).number ≡ Some call → Takes w.decls m.holder (seat s) s l call → Holds w m.holder seat → Reached w m → Reached w (taken m s l)
-Reached-take w m seat s l call is t h r =
+-- the machine can make a possible take
+pub CanTake-possible : (w : World) (m : Machine) (seat : ℕ → Seat) (s l : ℕ) (call : Call) → call_of w s (seat s).number ≡ Some call → Takes w.decls m.holder (seat s) s l call → Holds w m.holder seat → CanTake w.decls m s l
+CanTake-possible w m seat s l call is t h =
     let some : 1 ≤ s = is_session w s (seat s).number call is in
-    takes m s l r (record { session = omega arith; latch = t.within; free = t.free; above = λ k e. below k some e })
+    record { session = omega arith; latch = t.within; free = t.free; above = λ k e. below k some e }
   where
     below : (k : ℕ) → 1 ≤ s → m.holder k ≡ s → k < l
     below k some e = elim (nat_lt k l) as (λ b. nat_lt k l ≡ b → k < l) [
@@ -46,19 +43,19 @@ Reached-take w m seat s l call is t h r =
       ]
     ] refl
 
-pub Reached-commit : (w : World) (m : Machine) (seat : ℕ → Seat) (s : ℕ) (e : Entry) → IsValid w → call_of w s (seat s).number ≡ Some e.call → e.turn.session ≡ s → holds_below w.decls m.holder s e.call (journal_latch w.decls + 1) ≡ true
-    → All (λ f. f.turn.session ≡ e.turn.session → f.turn.number < e.turn.number) m.history → Reached w m → Reached w (committed w.decls m e)
-Reached-commit w m seat s e valid is session all above r =
+-- the machine can make a possible commit
+pub CanCommit-possible : (w : World) (m : Machine) (seat : ℕ → Seat) (s : ℕ) (e : Entry) → IsValid w → call_of w s (seat s).number ≡ Some e.call → e.turn.session ≡ s → holds_below w.decls m.holder s e.call (journal_latch w.decls + 1) ≡ true
+    → All (λ f. f.turn.session ≡ e.turn.session → f.turn.number < e.turn.number) m.history → CanCommit w.decls m e
+CanCommit-possible w m seat s e valid is session all above =
     let some : 1 ≤ s = is_session w s (seat s).number e.call is in
-    commits m e r (record {
+    record {
       session = omega arith;
       valid = call_is_valid_at w s (seat s).number e.call valid is;
       holds = λ l need. holds_below-at w.decls m.holder s e.call (journal_latch w.decls + 1) l all (needed_within w s (seat s).number e.call l valid is need) need ∙ sym session;
       above = above;
-    })
+    }
 
-pub Reached-give : (w : World) (m : Machine) (s l : ℕ) → 1 ≤ s → m.holder l ≡ s → Reached w m → Reached w (given m l)
-Reached-give w m s l some own r = gives m s l r (record { session = omega arith; held = own })
+-- ---- a quit is gives
 
 -- the holders after the first n latches are given back by session s
 abbrev given_below : (ℕ → ℕ) → ℕ → ℕ → ℕ → ℕ
@@ -95,11 +92,11 @@ still_held f s n = let t : nat_lt n n ≡ false = grind (arith, nat_tests) in rw
 abbrev gave : Machine → ℕ → ℕ → Machine
 gave m s n = record { holder = given_below m.holder s n; content = m.content; history = m.history }
 
-gives_below : (w : World) (m : Machine) (s : ℕ) → 1 ≤ s → Reached w m → (n : ℕ) → Reached w (gave m s n)
-gives_below w m s some r zero = subst (λ f. Reached w (record { holder = f; content = m.content; history = m.history })) (λ i k. sym (none_given m.holder s k) i) r
-gives_below w m s some r (suc n) = elim (cases_eq (m.holder n) s) [
-  | inl own ↦ subst (λ f. Reached w (record { holder = f; content = m.content; history = m.history })) (λ i k. given_more m.holder s n k own i) (Reached-give w (gave m s n) s n some (still_held m.holder s n ∙ own) (gives_below w m s some r n))
-  | inr other ↦ subst (λ f. Reached w (record { holder = f; content = m.content; history = m.history })) (λ i k. given_no_more m.holder s n k other i) (gives_below w m s some r n)
+gives_below : (m : Machine) (s : ℕ) → 0 < s → (n : ℕ) → Gives s m (gave m s n)
+gives_below m s some zero = subst (λ f. Gives s m (record { holder = f; content = m.content; history = m.history })) (λ i k. sym (none_given m.holder s k) i) nothing
+gives_below m s some (suc n) = elim (cases_eq (m.holder n) s) [
+  | inl own ↦ subst (λ f. Gives s m (record { holder = f; content = m.content; history = m.history })) (λ i k. given_more m.holder s n k own i) (one_more (gave m s n) n (gives_below m s some n) (record { session = some; held = still_held m.holder s n ∙ own }))
+  | inr other ↦ subst (λ f. Gives s m (record { holder = f; content = m.content; history = m.history })) (λ i k. given_no_more m.holder s n k other i) (gives_below m s some n)
 ]
 
 all_given : (w : World) (f : ℕ → ℕ) (s : ℕ) → 1 ≤ s → ((l : ℕ) → journal_latch w.decls < l → f l ≡ 0) → (k : ℕ) → given_below f s (journal_latch w.decls + 1) k ≡ without_session f s k
@@ -112,5 +109,11 @@ all_given w f s some within k = elim (nat_lt k (journal_latch w.decls + 1)) as (
       rw (t, not_own) refl
 ] refl
 
-pub Reached-quit : (w : World) (m : Machine) (s : ℕ) → 1 ≤ s → ((l : ℕ) → journal_latch w.decls < l → m.holder l ≡ 0) → Reached w m → Reached w (record { holder = without_session m.holder s; content = m.content; history = m.history })
-Reached-quit w m s some within r = subst (λ f. Reached w (record { holder = f; content = m.content; history = m.history })) (λ i k. all_given w m.holder s some within k i) (gives_below w m s some r (journal_latch w.decls + 1))
+-- who gives back all that it holds makes gives
+pub Gives-quit : (w : World) (m : Machine) (s : ℕ) → 1 ≤ s → ((l : ℕ) → journal_latch w.decls < l → m.holder l ≡ 0) → Gives s m (record { holder = without_session m.holder s; content = m.content; history = m.history })
+Gives-quit w m s some within = subst (λ f. Gives s m (record { holder = f; content = m.content; history = m.history })) (λ i k. all_given w m.holder s some within k i) (gives_below m s (omega arith) (journal_latch w.decls + 1))
+
+-- what gives lead to is reached
+pub Reached-gives : (w : World) (s : ℕ) (m n : Machine) → Reached w m → Gives s m n → Reached w n
+Reached-gives w s m _ r nothing = r
+Reached-gives w s m _ r (one_more n l g can) = gives n s l (Reached-gives w s m n r g) can

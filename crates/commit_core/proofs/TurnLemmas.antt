@@ -1,7 +1,7 @@
 -- How sessions stand to the history and to what they have lost.
 use Rattle.std.proofs.Common.{◌≡◌, ℕ, ◌<◌, ◌≤◌, ◌++◌, Bool, true, false, List, [], ◌∷◌, refl, ap, sym, ◌∙◌, arith, subst, Some, None, inl, inr}
 use Rattle.std.specs.Prelude.{◌⊎◌, ◌≢◌, ◌&&◌, ◌||◌, ◌==◌, All, nat_lt}
-use Rattle.std.proofs.lemmas.Bool.{cases_eq}
+use Rattle.std.proofs.lemmas.Bool.{cases_eq, or_cases}
 use Rattle.std.proofs.lemmas.Bool.Decides.{nat_tests}
 use Rattle.std.proofs.lemmas.List.Elements.{All-push, All-weaker, All-nil, All-head, All-tail}
 use Rattle.std.proofs.lemmas.List.Folds.{list_any-append}
@@ -15,12 +15,9 @@ use Rattle.commit_core.specs.declared.events.Seat.{Seat}
 use Rattle.commit_core.specs.Turns.{is_lost}
 use Rattle.commit_core.specs.Events.{seat_after, with_seat}
 use Rattle.commit_core.specs.Sound.{IsPast}
+use Rattle.commit_core.specs.Kept.{IsEntered}
 use Rattle.commit_core.proofs.Steps.{no_call_zero}
 use Rattle.commit_core.proofs.Next.{past_after, none_between, standing_after}
-
--- an entry's number for where its session stands: past, or its committed call
-abbrev pub IsEntered : Seat → ℕ → Type 0
-IsEntered x n = IsPast x n ⊎ ((n ≡ x.number) × (x.committed ≡ true))
 
 pub record Turns (w : World) (history : List Entry) (seat : ℕ → Seat) (lost : List Turn) : Type 0 where
   pub entries : All (λ e. IsEntered (seat e.turn.session) e.turn.number) history
@@ -63,10 +60,6 @@ or_left a b e = rw e refl
 or_right : (a b : Bool) → b ≡ true → (a || b) ≡ true
 or_right true b e = refl
 or_right false b e = e
-
-or_cases : (a b : Bool) → (a || b) ≡ true → (a ≡ true) ⊎ (b ≡ true)
-or_cases true b e = inl refl
-or_cases false b e = inr e
 
 or_more : (a b a' b' : Bool) → (a ≡ true → a' ≡ true) → (b ≡ true → b' ≡ true) → (a || b) ≡ true → (a' || b') ≡ true
 or_more a b a' b' f g e = elim (or_cases a b e) [

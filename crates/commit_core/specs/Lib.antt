@@ -4,5 +4,8 @@ pub mod Machine
 pub mod Valid
 pub mod Turns
 pub mod Events
+pub mod Steps
 pub mod State
 pub mod Sound
+pub mod Kept
+pub mod Whole

@@ -73,3 +73,8 @@ pub data Reached (w : World) : Machine → Type 0 where
   takes : (m : Machine) (s l : ℕ) → Reached w m → CanTake w.decls m s l → Reached w (taken m s l)
   commits : (m : Machine) (e : Entry) → Reached w m → CanCommit w.decls m e → Reached w (committed w.decls m e)
   gives : (m : Machine) (s l : ℕ) → Reached w m → CanGive m s l → Reached w (given m l)
+
+-- gives of session s lead from one state to another
+pub data Gives (s : ℕ) (m : Machine) : Machine → Type 0 where
+  nothing : Gives s m m
+  one_more : (n : Machine) (l : ℕ) → Gives s m n → CanGive n s l → Gives s m (given n l)

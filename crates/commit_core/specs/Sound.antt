@@ -1,4 +1,4 @@
--- What holds of a core at every moment of a run.
+-- What holds of a core at every moment.
 use Rattle.std.specs.Prelude.{ℕ, ◌≡◌, ◌<◌, true, false, ◌||◌, ◌⊎◌, Option, Some, None}
 use Rattle.dt_model.specs.declared.calls.Call.{Call}
 use Rattle.dt_model.specs.declared.replies.Reply.{Reply}

@@ -1,16 +1,15 @@
 -- What contracts see of a core, and the progress that it stands for.
-use Rattle.std.specs.Prelude.{ℕ, ◌≡◌, ◌+◌, List, length, slice_index, false, Option, slice_get, option_and_then}
+use Rattle.std.specs.Prelude.{ℕ, List, slice_index, false, Option, slice_get, option_and_then}
 use Rattle.std.specs.List.{slice_index_or}
 use Rattle.dt_model.specs.declared.calls.Turn.{Turn}
 use Rattle.dt_model.specs.declared.calls.Entry.{Entry}
 use Rattle.dt_model.specs.declared.declared_tensors.Decls.{Decls}
-use Rattle.dt_model.specs.Worlds.{IsValid}
 use Rattle.dt_model.specs.Runs.{cut}
 use Rattle.dt_model.specs.declared.replies.World.{World}
 use Rattle.dt_model.specs.Contents.{Contents}
 use Rattle.commit_core.specs.declared.events.Seat.{Seat}
 use Rattle.commit_core.specs.Cells.{Cells, contents_of}
-use Rattle.commit_core.specs.Machine.{Machine, journal_latch}
+use Rattle.commit_core.specs.Machine.{Machine}
 use Rattle.commit_core.specs.Events.{Progress}
 
 -- the World; by latch the session that holds it; by session where it stands, from place 1 on; by tensor its cells; the
@@ -47,12 +46,3 @@ progress_of c = record { machine = machine_of c; seat = seat_in c.seats; lost = 
 -- what the entry at a place read, if there is one and it is a get
 abbrev pub reply_in : List (Option ℕ) → ℕ → Option ℕ
 reply_in replies place = option_and_then (λ r. r) (slice_get replies place)
-
--- what a core's fields keep: the World is valid, each latch has a holder, each session a place and each tensor its cells,
--- and the journal has the room that it was made with
-pub record IsWhole (w : World) (holders : List ℕ) (seats : List Seat) (count made spare total : ℕ) : Type 0 where
-  pub valid : IsValid w
-  pub latches : length holders ≡ journal_latch w.decls + 1
-  pub sessions : length seats ≡ length w.scripts + 1
-  pub tensors : count ≡ length w.base
-  pub room : made + spare ≡ total

@@ -5,7 +5,9 @@ ghost use Rattle.commit_core.specs.declared.events.Event.TheVariants.{Take, Comm
 ghost use Rattle.commit_core.specs.Events.{opened, current, is_possible, after, after_take, after_commit, after_give, after_quit, run_of};
 ghost use Rattle.commit_core.specs.State.{progress_of, reply_in};
 ghost use Rattle.commit_core.specs.Turns.{is_lost};
+ghost use Rattle.commit_core.specs.Steps.{TakesMemory, IsStep};
 ghost use Rattle.commit_core.specs.Sound.{IsSound};
+ghost use Rattle.commit_core.specs.Kept.{IsKept};
 
 use crate::cells::CellList;
 use crate::entering::{enter, release};
@@ -31,17 +33,16 @@ pub struct Core<'w> {
     journal: Journal,
     replies: Vec<Option<u64>>,
     lost: Vec<Turn>,
-    room: u32,
 }
 
 impl<'w> Model for Core<'w> {
-    ghost use Rattle.std.specs.Prelude.{length};
     ghost use Rattle.std.specs.Coded.{codes};
     ghost use Rattle.dt_model.specs.contracts.replies.World as given;
     ghost use Rattle.dt_model.specs.contracts.calls.Entry as entered;
     ghost use Rattle.commit_core.specs.contracts.events.Seat as seated;
     ghost use Rattle.commit_core.specs.Roomy.{all_cells};
-    ghost use Rattle.commit_core.specs.State.{CoreState, IsWhole};
+    ghost use Rattle.commit_core.specs.State.{CoreState};
+    ghost use Rattle.commit_core.specs.Whole.{IsWhole};
 
     ghost Value = { CoreState };
 
@@ -49,7 +50,7 @@ impl<'w> Model for Core<'w> {
 
     ghost view = { λ c. record { world = c.world.now; holders = c.holders.items; seats = c.seats.items; tensors = all_cells c.tensors.items; entries = c.journal.entries; replies = c.replies.items; lost = c.lost.items } };
 
-    ghost invariant = { λ c. IsWhole c.world.now c.holders.items c.seats.items (length c.tensors.items) (length c.journal.entries) c.journal.spare c.room };
+    ghost invariant = { λ c. IsWhole (record { world = c.world.now; holders = c.holders.items; seats = c.seats.items; tensors = all_cells c.tensors.items; entries = c.journal.entries; replies = c.replies.items; lost = c.lost.items }) c.journal.spare };
 }
 
 impl<'w> Core<'w> {
@@ -59,12 +60,12 @@ impl<'w> Core<'w> {
         requires valid { IsValid world.now }
         ensures world { IfOk result (λ c. c.world ≡ world.now) }
         ensures value { IfOk result (λ c. progress_of c ≡ opened world.now) }
+        ensures sound { IfOk result (λ c. IsSound world.now (progress_of c)) }
     {
         let tensors = loaded(alloc, world.base.as_slice())?;
         let holders = all_free(alloc, latch_count(&world.decls) + 1)?;
         let seats = first_seats(alloc, world)?;
-        let room = lines_in(world);
-        let journal = Journal::with_room(alloc, room)?;
+        let journal = Journal::with_room(alloc, lines_in(world))?;
         Ok(Core {
             alloc,
             world,
@@ -74,13 +75,13 @@ impl<'w> Core<'w> {
             journal,
             replies: Vec::new(alloc),
             lost: Vec::new(alloc),
-            room,
         })
     }
 
     /// Whether an event may happen now. It asks for each latch whether the session's call needs it.
     pub fn possible(&self, event: Event) -> bool
         ensures value { result ≡ is_possible self.now.world (progress_of self.now) event }
+        ensures kept { IsKept self.now.world (progress_of self.now) }
     {
         is_possible(
             self.world,
@@ -136,9 +137,6 @@ impl<'w> Core<'w> {
     {
         let world = self.world;
         let seat = seat_of(self.seats.as_slice(), session);
-        if self.journal.len() >= self.room as usize {
-            return Err(NoMemory);
-        }
         match call_of(world, session, seat.number) {
             None => unreachable!(),
             Some(call) => {
@@ -196,12 +194,15 @@ impl<'w> Core<'w> {
         }
     }
 
-    /// Makes an event happen. NotPossible comes exactly where it isn't possible; a commit and a quit
-    /// take memory. After either fault all is as before.
+    /// Makes an event happen. NotPossible comes exactly where it isn't possible, and NoMemory only where
+    /// a commit or a quit was refused an allocation. After either fault all is as before.
     pub fn step(&mut self, event: Event) -> Result<(), StepFault>
         ensures possible { OnOk result (is_possible self.old.world (progress_of self.old) event ≡ true) }
         ensures not_possible { (result ≡ Err NotPossible) ↔ (is_possible self.old.world (progress_of self.old) event ≡ false) }
         ensures ok { OnOk result (progress_of self.new ≡ after self.old.world (progress_of self.old) event) }
+        ensures no_memory { (result ≡ Err StepFault.NoMemory) → TakesMemory event }
+        ensures machine { OnOk result (IsStep self.old.world (progress_of self.old) event (progress_of self.new).machine) }
+        ensures sound { IsSound self.new.world (progress_of self.new) }
         ensures world { self.new.world ≡ self.old.world }
         ensures err { OnErr result (self.new ≡ self.old) }
     {
@@ -228,10 +229,12 @@ impl<'w> Core<'w> {
         }
     }
 
-    fn run_events(alloc: Global, world: &'w World, events: &[Event]) -> Result<Core<'w>, NoMemory>
+    /// From the opening every possible event in its turn; events that aren't possible are passed over.
+    pub fn run(alloc: Global, world: &'w World, events: &[Event]) -> Result<Core<'w>, NoMemory>
         requires valid { IsValid world.now }
         ensures world { IfOk result (λ c. c.world ≡ world.now) }
         ensures value { IfOk result (λ c. progress_of c ≡ run_of world.now events.now) }
+        ensures sound { IfOk result (λ c. IsSound world.now (progress_of c)) }
     {
         let mut core = Core::open(alloc, world)?;
         for event in events {
@@ -242,15 +245,5 @@ impl<'w> Core<'w> {
             }
         }
         Ok(core)
-    }
-
-    /// From the opening every possible event in its turn; events that aren't possible are passed over.
-    pub fn run(alloc: Global, world: &'w World, events: &[Event]) -> Result<Core<'w>, NoMemory>
-        requires valid { IsValid world.now }
-        ensures world { IfOk result (λ c. c.world ≡ world.now) }
-        ensures value { IfOk result (λ c. progress_of c ≡ run_of world.now events.now) }
-        ensures sound { IfOk result (λ c. IsSound world.now (progress_of c)) }
-    {
-        Core::run_events(alloc, world, events)
     }
 }

@@ -4,8 +4,9 @@
 //! `Core::possible` says which may; `journal`, `holder`, `reply` and `lost` read what has come of it.
 //! `loaded`, `number_at`, `reserve_all` and `apply_all` keep each tensor's cells as a `CellList`.
 //! Clauses see a core as a `CoreState`, and a `CellList` as a `Roomy`. Read `Progress`, `is_possible`
-//! and `after` in `specs/Events.antt` first, `IsSound` in `specs/Sound.antt` for what holds after every
-//! run, and `contents_of` in `specs/Cells.antt` for what cells stand for.
+//! and `after` in `specs/Events.antt` first, `IsStep` in `specs/Steps.antt` for what an event is to the
+//! latch machine, `IsSound` in `specs/Sound.antt` for what holds after every call, and `contents_of` in
+//! `specs/Cells.antt` for what cells stand for.
 //! Sessions and calls are counted from 1, tensors, latches and places in the journal from 0; the journal's
 //! latch comes last. A World has at most 16 sessions, 1,024 latches and 65,536 lines a script.
 //! Not here: threads and the words of latches (`fiber_latch`), and what a query answers.

@@ -406,10 +406,10 @@ fn check_row(rt: &impl Abort, alloc: Global, world: &World, row: &Row<'_>) -> Re
     for (place, (made, reply)) in row.made.iter().enumerate() {
         let entry = core.journal().get(place).ok_or("an entry")?;
         assert_eq!(rt; entry.turn, *made);
-        assert_eq!(rt; core.reply(place as u32), *reply);
+        assert_eq!(rt; core.reply(u32::try_from(place)?), *reply);
         assert_eq!(rt; core.lost(*made), false);
     }
-    assert_eq!(rt; core.reply(row.made.len() as u32), None);
+    assert_eq!(rt; core.reply(u32::try_from(row.made.len())?), None);
     for (latch, holder) in row.holders {
         assert_eq!(rt; core.holder(*latch), *holder);
     }

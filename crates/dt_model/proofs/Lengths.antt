@@ -16,7 +16,8 @@ abbrev pub EachRises : List Entry → Type 0
 EachRises [] = Unit {0}
 EachRises (e ∷ es) = Each (Rises e) es × EachRises es
 
-EachRises-from_AllPairs : (es : List Entry) → AllPairs Rises es → EachRises es
+-- a list that rises by pairs rises entry by entry
+pub EachRises-from_AllPairs : (es : List Entry) → AllPairs Rises es → EachRises es
 EachRises-from_AllPairs [] h = tt
 EachRises-from_AllPairs (e ∷ es) h = (Each-from_All (Rises e) es (pairs_first Rises e es h), EachRises-from_AllPairs es (pairs_rest Rises e es h))
 
@@ -26,7 +27,7 @@ count_of s [] = 0
 count_of s (e ∷ es) = if e.turn.session == s then count_of s es + 1 else count_of s es
 
 -- of session s the entry has a number above m and at most n
-abbrev IsBetween : ℕ → ℕ → ℕ → Entry → Type 0
+abbrev pub IsBetween : ℕ → ℕ → ℕ → Entry → Type 0
 IsBetween s m n e = e.turn.session ≡ s → (m < e.turn.number) × (e.turn.number ≤ n)
 
 same_number : (a b : ℕ) → (a == b) ≡ true → a ≡ b
@@ -36,7 +37,7 @@ other_number : (a b c : ℕ) → (a == b) ≡ false → a ≤ b → b ≡ c + 1 
 other_number a b c t l e = grind (arith, nat_tests)
 
 -- numbers that rise from above m to n are no more than lie between
-count_of-between : (s m n : ℕ) (es : List Entry) → m ≤ n → Each (IsBetween s m n) es → EachRises es → count_of s es + m ≤ n
+pub count_of-between : (s m n : ℕ) (es : List Entry) → m ≤ n → Each (IsBetween s m n) es → EachRises es → count_of s es + m ≤ n
 count_of-between s m n [] low h r = omega (arith, low)
 count_of-between s m n (e ∷ es) low h r = by_session (e.turn.session == s) refl (λ k l g. count_of-between s k n es l g r.1)
   where
@@ -56,7 +57,8 @@ abbrev pub without : ℕ → List Entry → List Entry
 without s [] = []
 without s (e ∷ es) = if e.turn.session == s then without s es else e ∷ without s es
 
-length-without : (s : ℕ) (es : List Entry) → length es ≡ count_of s es + length (without s es)
+-- each entry is of session s or of another
+pub length-without : (s : ℕ) (es : List Entry) → length es ≡ count_of s es + length (without s es)
 length-without s [] = refl
 length-without s (e ∷ es) = by_session (e.turn.session == s) (length-without s es)
   where
@@ -64,7 +66,8 @@ length-without s (e ∷ es) = by_session (e.turn.session == s) (length-without s
     by_session true h = omega (arith, h)
     by_session false h = omega (arith, h)
 
-count_of-without : (s t : ℕ) (es : List Entry) → count_of s (without t es) ≤ count_of s es
+-- without those of one session no session has more entries
+pub count_of-without : (s t : ℕ) (es : List Entry) → count_of s (without t es) ≤ count_of s es
 count_of-without s t [] = omega arith
 count_of-without s t (e ∷ es) = by_session (e.turn.session == t) (count_of-without s t es)
   where
@@ -81,10 +84,11 @@ count_of-without s t (e ∷ es) = by_session (e.turn.session == t) (count_of-wit
     by_session false h = both (e.turn.session == s) (count_of s (without t es)) (count_of s es) h
 
 -- the entry's session is from 1 to k
-abbrev IsWithin : ℕ → Entry → Type 0
+abbrev pub IsWithin : ℕ → Entry → Type 0
 IsWithin k e = (1 ≤ e.turn.session) × (e.turn.session ≤ k)
 
-without_last : (k j : ℕ) (es : List Entry) → j ≡ k + 1 → Each (IsWithin j) es → Each (IsWithin k) (without j es)
+-- without those of the last session all are of the sessions before it
+pub without_last : (k j : ℕ) (es : List Entry) → j ≡ k + 1 → Each (IsWithin j) es → Each (IsWithin k) (without j es)
 without_last k j [] g h = tt
 without_last k j (e ∷ es) g h = by_session (e.turn.session == j) refl (without_last k j es g h.1)
   where
@@ -92,7 +96,8 @@ without_last k j (e ∷ es) g h = by_session (e.turn.session == j) refl (without
     by_session true t h' = h'
     by_session false t h' = ((h.0.0, other_number e.turn.session j k t h.0.1 g), h')
 
-none_within : (es : List Entry) → Each (IsWithin 0) es → length es ≤ 0
+-- where there is no session there is no entry
+pub none_within : (es : List Entry) → Each (IsWithin 0) es → length es ≤ 0
 none_within [] h = omega arith
 none_within (e ∷ es) h = let low = h.0.0 in let high = h.0.1 in absurd (omega (arith, low, high))
 

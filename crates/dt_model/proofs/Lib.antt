@@ -6,6 +6,7 @@ pub mod NumberWords
 pub mod Growing
 pub mod Histories
 pub mod Lengths
+pub mod Lines
 pub mod ReportWords
 pub mod Reports
 pub mod Examples

@@ -1,13 +1,15 @@
-use Rattle.std.proofs.Common.{◌≡◌, subst, sym}
-use Rattle.std.proofs.lemmas.Result.{IfOk-weaker}
-use Rattle.commit_core.specs.Events.{run_of}
-use Rattle.commit_core.specs.State.{progress_of}
-use Rattle.commit_core.specs.Sound.{IsSound}
-use Rattle.commit_core.proofs.Sounds.{IsSound-run}
+use Rattle.std.proofs.Common.{◌∙◌, ap, Err}
+use Rattle.commit_core.proofs.Steps.{run_on, run_past}
 use Rattle.commit_core.proofs.cores.Core.run.Goals as goal
+use Rattle.commit_core.proofs.cores.Core.run.Goals.{in-Ok, in-Err-NotPossible}
 
-pub returns-clause-sound : goal.returns-clause-sound
-returns-clause-sound c =
-    let w = c.args.world.now in
-    let es = c.args.events.now in
-    IfOk-weaker c.run_events.result (λ x. progress_of x ≡ run_of w es) (λ x. IsSound w (progress_of x)) (λ x e. subst (IsSound w) (sym e) (IsSound-run w es c.requires.valid)) c.run_events.ensures.value
+pub loop-event-preserved : goal.loop-event-preserved
+loop-event-preserved c = (
+  c.step.ensures.world ∙ c.loop-event.invariant.0,
+  elim c.match-step.branch [
+    | in-Ok w ↦ run_on c.args.world.now c.args.events.now c.loop-event.event-index _ c.loop-event.core c.step.new.self c.loop-event-test.true c.loop-event.invariant.0 c.loop-event.invariant.1 w.in-Ok.ensures.possible w.in-Ok.ensures.ok
+    | in-Err-NotPossible w ↦ run_past c.args.world.now c.args.events.now c.loop-event.event-index _ c.loop-event.core c.step.new.self c.loop-event-test.true c.loop-event.invariant.0 c.loop-event.invariant.1
+        (w.in-Err-NotPossible.ensures.not_possible.0 (ap Err w.in-Err-NotPossible.field-0-is)) w.in-Err-NotPossible.ensures.err
+  ],
+  c.step.ensures.sound,
+)
