@@ -1,4 +1,4 @@
-ghost use Rattle.std.specs.Prelude.{◌≡◌, [], ◌∷◌, IfOk};
+ghost use Rattle.std.specs.Prelude.{◌≡◌, [], ◌∷◌, ◌++◌, IfOk};
 ghost use Rattle.dt_model.specs.declared.calls.Call.TheVariants.{Get, Batch, Query};
 ghost use Rattle.dt_model.specs.declared.calls.Update.TheVariants.{Set, Add};
 ghost use Rattle.dt_model.specs.declared.replies.Verdict.TheVariants.{Accepted};
@@ -17,37 +17,32 @@ use std::alloc::Global;
 use std::process::Abort;
 use std::test::Fail;
 
-fn one<T: Drop>(alloc: Global, item: T) -> Result<Listed<T>, NoMemory>
-    ensures value { IfOk result (λ l. l ≡ item ∷ []) }
+fn with_last<T: Drop>(items: Listed<T>, item: T) -> Result<Listed<T>, NoMemory>
+    ensures value { IfOk result (λ l. l ≡ items ++ item ∷ []) }
 {
-    let mut items = Listed::new(alloc);
+    let mut items = items;
     match items.push(item) {
         Ok(()) => Ok(items),
         Err(_) => Err(NoMemory),
     }
 }
 
+fn one<T: Drop>(alloc: Global, item: T) -> Result<Listed<T>, NoMemory>
+    ensures value { IfOk result (λ l. l ≡ item ∷ []) }
+{
+    with_last(Listed::new(alloc), item)
+}
+
 fn two<T: Drop>(alloc: Global, first: T, second: T) -> Result<Listed<T>, NoMemory>
     ensures value { IfOk result (λ l. l ≡ first ∷ second ∷ []) }
 {
-    let mut items = Listed::new(alloc);
-    if items.push(first).is_err() {
-        return Err(NoMemory);
-    }
-    match items.push(second) {
-        Ok(()) => Ok(items),
-        Err(_) => Err(NoMemory),
-    }
+    with_last(one(alloc, first)?, second)
 }
 
 fn three<T: Drop>(alloc: Global, first: T, second: T, third: T) -> Result<Listed<T>, NoMemory>
     ensures value { IfOk result (λ l. l ≡ first ∷ second ∷ third ∷ []) }
 {
-    let mut items = two(alloc, first, second)?;
-    match items.push(third) {
-        Ok(()) => Ok(items),
-        Err(_) => Err(NoMemory),
-    }
+    with_last(two(alloc, first, second)?, third)
 }
 
 fn named(byte: u8) -> Result<Name, NoMemory>
@@ -195,191 +190,115 @@ fn large_world(alloc: Global) -> Result<World, NoMemory>
     })
 }
 
+/// `take!(1, 0)` is the event that session 1 takes latch 0.
+macro_rules! take {
+    ($session:literal, $latch:literal) => {
+        Take {
+            session: $session,
+            latch: $latch,
+        }
+    };
+}
+
+/// `give!(1, 0)` is the event that session 1 gives latch 0 back.
+macro_rules! give {
+    ($session:literal, $latch:literal) => {
+        Give {
+            session: $session,
+            latch: $latch,
+        }
+    };
+}
+
 const SMALL: [Event; 9] = [
-    Take {
-        session: 2,
-        latch: 0,
-    },
-    Take {
-        session: 1,
-        latch: 0,
-    },
-    Take {
-        session: 2,
-        latch: 2,
-    },
+    // Both need latch 0 and the journal's, which is 2: session 2 has it first, and session 1 can't.
+    take!(2, 0),
+    take!(1, 0),
+    // With both, session 2 commits its get, which reads 0.
+    take!(2, 2),
     Commit { session: 2 },
-    Give {
-        session: 2,
-        latch: 0,
-    },
-    Take {
-        session: 1,
-        latch: 0,
-    },
-    Give {
-        session: 2,
-        latch: 2,
-    },
-    Take {
-        session: 1,
-        latch: 2,
-    },
+    // Once given back, latch 0 is session 1's, while session 2 still holds the journal's.
+    give!(2, 0),
+    take!(1, 0),
+    // After the last give session 1 can take the journal's and commit.
+    give!(2, 2),
+    take!(1, 2),
     Commit { session: 1 },
 ];
 
 const SMALL_QUIT: [Event; 2] = [
-    Take {
-        session: 1,
-        latch: 0,
-    },
+    // Before its commit session 1 can quit, and latch 0 is free again.
+    take!(1, 0),
     Quit { session: 1 },
 ];
 
 const WHOLE: [Event; 27] = [
-    Take {
-        session: 1,
-        latch: 0,
-    },
-    Take {
-        session: 1,
-        latch: 1,
-    },
-    Take {
-        session: 1,
-        latch: 2,
-    },
-    Take {
-        session: 2,
-        latch: 2,
-    },
-    Take {
-        session: 1,
-        latch: 3,
-    },
+    // The batch needs 0, 1, 2 and 3, in that order.
+    take!(1, 0),
+    take!(1, 1),
+    take!(1, 2),
+    // Not possible: the query needs 2 and 3, and session 1 holds 2.
+    take!(2, 2),
+    take!(1, 3),
     Commit { session: 1 },
+    // Not possible: the batch is committed.
     Quit { session: 1 },
-    Give {
-        session: 1,
-        latch: 3,
-    },
-    Give {
-        session: 1,
-        latch: 1,
-    },
-    Take {
-        session: 2,
-        latch: 3,
-    },
-    Give {
-        session: 1,
-        latch: 0,
-    },
-    Take {
-        session: 2,
-        latch: 2,
-    },
-    Give {
-        session: 1,
-        latch: 2,
-    },
-    Take {
-        session: 2,
-        latch: 2,
-    },
-    Take {
-        session: 1,
-        latch: 2,
-    },
-    Take {
-        session: 2,
-        latch: 3,
-    },
+    // Gives come in any order.
+    give!(1, 3),
+    give!(1, 1),
+    // Not possible: session 2 lacks 2, which comes before 3.
+    take!(2, 3),
+    give!(1, 0),
+    // Not possible: session 1 still holds 2.
+    take!(2, 2),
+    // The last give: session 1 goes on to its get, which needs 2 and 3.
+    give!(1, 2),
+    take!(2, 2),
+    // Not possible: session 2 holds 2.
+    take!(1, 2),
+    // The query commits second. It reads no number, since the core evaluates gets alone.
+    take!(2, 3),
     Commit { session: 2 },
-    Give {
-        session: 2,
-        latch: 2,
-    },
-    Take {
-        session: 1,
-        latch: 2,
-    },
-    Give {
-        session: 2,
-        latch: 3,
-    },
-    Take {
-        session: 1,
-        latch: 3,
-    },
+    give!(2, 2),
+    take!(1, 2),
+    // The last give: session 2 goes on to its get, which needs 1 and 3.
+    give!(2, 3),
+    // The get of b's last cell reads the loaded 1 and the batch's 7.
+    take!(1, 3),
     Commit { session: 1 },
-    Give {
-        session: 1,
-        latch: 2,
-    },
-    Give {
-        session: 1,
-        latch: 3,
-    },
-    Take {
-        session: 2,
-        latch: 1,
-    },
-    Take {
-        session: 2,
-        latch: 3,
-    },
+    // After these gives session 1 has no call left.
+    give!(1, 2),
+    give!(1, 3),
+    // The get of a's last cell reads the batch's 9. Session 2 keeps 1 and 3.
+    take!(2, 1),
+    take!(2, 3),
     Commit { session: 2 },
 ];
 
 const QUITS: [Event; 10] = [
-    Take {
-        session: 1,
-        latch: 1,
-    },
-    Take {
-        session: 1,
-        latch: 0,
-    },
-    Take {
-        session: 1,
-        latch: 2,
-    },
+    // Not possible: the batch takes 0 first.
+    take!(1, 1),
+    take!(1, 0),
+    // Not possible: 1 comes before 2, the batch lacks three latches, and nothing is committed.
+    take!(1, 2),
     Commit { session: 1 },
-    Give {
-        session: 1,
-        latch: 0,
-    },
+    give!(1, 0),
+    // Session 1 loses the batch and goes on to its get, which reads the loaded 1.
     Quit { session: 1 },
-    Take {
-        session: 1,
-        latch: 2,
-    },
-    Take {
-        session: 1,
-        latch: 3,
-    },
+    take!(1, 2),
+    take!(1, 3),
     Commit { session: 1 },
+    // Not possible: the get is committed.
     Quit { session: 1 },
 ];
 
 const STRANGERS: [Event; 6] = [
-    Take {
-        session: 0,
-        latch: 0,
-    },
-    Take {
-        session: 3,
-        latch: 0,
-    },
-    Take {
-        session: 1,
-        latch: 9,
-    },
-    Give {
-        session: 1,
-        latch: 0,
-    },
+    // Sessions are 1 and 2, latches 0 to 3.
+    take!(0, 0),
+    take!(3, 0),
+    take!(1, 9),
+    // At the opening nothing is held.
+    give!(1, 0),
     Commit { session: 2 },
     Quit { session: 3 },
 ];
