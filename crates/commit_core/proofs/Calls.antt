@@ -3,7 +3,7 @@ use Rattle.std.proofs.Common.{◌≡◌, ℕ, ◌+◌, ◌-◌, ◌*◌, ◌<◌
 use Rattle.std.specs.Prelude.{◌&&◌, ◌||◌, nat_le, nat_lt, slice_get, option_and_then, if◌then◌else◌, find, is_some, unwrap_or, IfSome, All}
 use Rattle.std.specs.List.{list_all, range_with_len, enumerate_from}
 use Rattle.std.specs.Option.{option_copied}
-use Rattle.std.proofs.lemmas.Option.{slice_get-get_or}
+use Rattle.std.proofs.lemmas.Option.{slice_get-get_or, slice_get_past}
 use Rattle.std.proofs.lemmas.List.Elements.{All-weaker}
 use Rattle.std.proofs.lemmas.List.Sums.{AllPass-from_list_all, sum_by-le}
 use Rattle.dt_model.specs.declared.declared_tensors.TensorDecl.{TensorDecl}
@@ -98,11 +98,6 @@ all_enumerated p n (y ∷ ys) (suc i) k x h l e = all_enumerated p (n + 1) ys i 
 pub found_is_valid : (w : World) (s n : ℕ) (o : Option (Bor Call)) → IsValid w → option_copied o ≡ call_of w s n → IfSome o (λ call. IsTrue (call_is_valid w.decls call.now))
 found_is_valid w s n None v e = tt
 found_is_valid w s n (Some call) v e = call_is_valid_at w s n call.now v (sym e)
-
-slice_get_past : {X : Type 0} (xs : List X) (i : ℕ) → length xs ≤ i → slice_get xs i ≡ None
-slice_get_past [] i l = refl
-slice_get_past (x ∷ xs) zero l = absurd (omega arith)
-slice_get_past (x ∷ xs) (suc i) l = slice_get_past xs i (omega arith)
 
 past_scripts : (b : Bool) (o : Option (List Verdict)) → o ≡ None → (if b then o else None) ≡ None
 past_scripts true o e = e

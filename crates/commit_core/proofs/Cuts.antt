@@ -1,10 +1,9 @@
 -- The cells of one latch, over the calls of a history.
-use Rattle.std.proofs.Common.{◌≡◌, ℕ, ◌+◌, ◌%◌, ◌^◌, ◌++◌, ◌||◌, ◌&&◌, ◌==◌, Bool, true, false, List, [], ◌∷◌, refl, sym, ap, ◌∙◌, subst, if◌then◌else◌, nat_eq}
+use Rattle.std.proofs.Common.{◌≡◌, ℕ, ◌+◌, ◌%◌, ◌^◌, ◌++◌, ◌||◌, ◌==◌, Bool, true, false, List, [], ◌∷◌, refl, sym, ap, ◌∙◌, subst, if◌then◌else◌, nat_eq}
 use Rattle.std.specs.Cmp.Lexicographic.{pointwise}
 use Rattle.std.specs.List.{list_any}
 use Rattle.std.proofs.lemmas.Bool.Decides.{Decides-eqb}
 use Rattle.std.proofs.lemmas.Slice.Eq.{slice_eq-Decides}
-use Rattle.std.proofs.lemmas.List.Sums.{fold-append}
 use Rattle.dt_model.specs.declared.calls.Call.{Call}
 use Rattle.dt_model.specs.declared.calls.Call.TheVariants.{Get, Batch, Query}
 use Rattle.dt_model.specs.declared.calls.Entry.{Entry}
@@ -14,17 +13,14 @@ use Rattle.dt_model.specs.declared.declared_tensors.Decls.{Decls}
 use Rattle.dt_model.specs.declared.replies.World.{World}
 use Rattle.dt_model.specs.Contents.{Contents, same_cell, with_cell, with_update, with_updates}
 use Rattle.dt_model.specs.Latches.{needs, latch_of_cell}
-use Rattle.dt_model.specs.Runs.{after_call, fold_of, base_of, cut}
+use Rattle.dt_model.specs.Runs.{after_call, fold_of, cut}
 use Rattle.dt_model.specs.Tensors.{latch_of}
 use Rattle.dt_model.specs.Verdicts.{update_cell}
+use Rattle.dt_model.proofs.TestLemmas.{both_true}
+pub use Rattle.dt_model.proofs.LastEntry.{fold_of-push}
 use Rattle.commit_core.specs.Machine.{content_after}
 
 -- ---- one cell
-
-both_true : (a b : Bool) → (a && b) ≡ true → (a ≡ true) × (b ≡ true)
-both_true true true e = (refl, refl)
-both_true true false e = absurd (cc)
-both_true false b e = absurd (cc)
 
 -- two cells that are one have equal parts
 pub same_cell-is : (t : ℕ) (c : List ℕ) (u : ℕ) (d : List ℕ) → same_cell t c u d ≡ true → (t ≡ u) × (c ≡ d)
@@ -106,9 +102,6 @@ content_after-cut d m call l = go (needs d call l) refl
     go : (b : Bool) → needs d call l ≡ b → (if b then cut d (after_call (cut d m l) call) l else cut d m l) ≡ cut d (after_call m call) l
     go true e = cut-agree d l (after_call (cut d m l) call) (after_call m call) (after_call-agree d l (cut d m l) m call (agree-cut d l m))
     go false e = sym (after_call-apart d l m call e)
-
-pub fold_of-push : (w : World) (H : List Entry) (e : Entry) → fold_of w (H ++ e ∷ []) ≡ after_call (fold_of w H) e.call
-fold_of-push w H e = fold-append (λ n f. after_call n f.call) (base_of w) H (e ∷ [])
 
 -- entries that don't need a latch leave its cells
 pub cut-apart : (w : World) (l : ℕ) (p : List Entry) (e : Entry) → needs w.decls e.call l ≡ false → cut w.decls (fold_of w (p ++ e ∷ [])) l ≡ cut w.decls (fold_of w p) l

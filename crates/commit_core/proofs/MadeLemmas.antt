@@ -5,10 +5,8 @@ use Rattle.std.specs.Option.{option_map}
 use Rattle.std.proofs.lemmas.Bool.Decides.{nat_tests}
 use Rattle.std.proofs.lemmas.List.{take-append-le}
 use Rattle.std.proofs.lemmas.List.Elements.{All-push, All-nil}
-use Rattle.std.proofs.lemmas.List.Sums.{fold_push}
 use Rattle.std.proofs.lemmas.List.Quantifiers.{all_pairs_push}
 use Rattle.std.proofs.lemmas.Option.{slice_get_past}
-use Rattle.std.proofs.Math.Seq.{take-append_seam}
 use Rattle.dt_model.specs.declared.calls.Call.{Call}
 use Rattle.dt_model.specs.declared.calls.Call.TheVariants.{Get, Batch, Query}
 use Rattle.dt_model.specs.declared.calls.Entry.{Entry}
@@ -17,13 +15,15 @@ use Rattle.dt_model.specs.declared.replies.World.{World}
 use Rattle.dt_model.specs.Contents.{Contents}
 use Rattle.dt_model.specs.Tensors.{latch_of}
 use Rattle.dt_model.specs.Latches.{latch_of_cell}
-use Rattle.dt_model.specs.Runs.{cut, call_of, after_call, fold_of, base_of, reply_of, reply_to, Rises}
+use Rattle.dt_model.specs.Runs.{cut, call_of, fold_of, base_of, reply_of, reply_to, Rises}
+use Rattle.dt_model.proofs.LastEntry.{fold_of-push, slice_get-last, reply_of-push}
 use Rattle.commit_core.specs.Machine.{content_after}
 use Rattle.commit_core.specs.Events.{read_by}
 use Rattle.commit_core.specs.State.{reply_in}
 use Rattle.commit_core.specs.Sound.{value_in}
 use Rattle.commit_core.proofs.Cuts.{content_after-cut}
 
+-- the entries are the World's calls in a rising order, and what they made of the contents and have read
 pub record Made (w : World) (content : ℕ → Contents) (history : List Entry) (read : List (Option ℕ)) : Type 0 where
   pub called : All (λ e. call_of w e.turn.session e.turn.number ≡ Some e.call) history
   pub rising : AllPairs Rises history
@@ -31,14 +31,11 @@ pub record Made (w : World) (content : ℕ → Contents) (history : List Entry) 
   pub counted : length read ≡ length history
   pub replies : (place : ℕ) → reply_in read place ≡ value_in (reply_of w history place)
 
+-- what is added behind leaves each place before it
 slice_get-before : {X : Type 0} (xs ys : List X) (i : ℕ) → i < length xs → slice_get (xs ++ ys) i ≡ slice_get xs i
 slice_get-before [] ys i l = absurd (omega arith)
 slice_get-before (x ∷ xs) ys zero l = refl
 slice_get-before (x ∷ xs) ys (suc i) l = slice_get-before xs ys i (omega arith)
-
-slice_get-last : {X : Type 0} (xs : List X) (y : X) → slice_get (xs ++ y ∷ []) (length xs) ≡ Some y
-slice_get-last [] y = refl
-slice_get-last (x ∷ xs) y = slice_get-last xs y
 
 same_latch : (n x : ℕ) → (if n == n then x else 0) ≡ x
 same_latch n x = let t : (n == n) ≡ true = grind (arith, nat_tests) in rw t refl
@@ -49,19 +46,17 @@ read_is d content m (Get cell) h = ap Some (ap (λ f. f cell.tensor cell.at) (h 
 read_is d content m (Batch updates) h = refl
 read_is d content m (Query stmt) h = refl
 
+-- an entry more leaves the replies of those before it
 reply_of-before : (w : World) (es : List Entry) (e : Entry) (p : ℕ) → p < length es → reply_of w (es ++ e ∷ []) p ≡ reply_of w es p
 reply_of-before w es e p l =
     ap (λ o. option_map (λ x. reply_to w.decls (fold_of w (take p (es ++ e ∷ []))) x.call) o) (slice_get-before es (e ∷ []) p l)
     ∙ ap (λ xs. option_map (λ x. reply_to w.decls (fold_of w xs) x.call) (slice_get es p)) (take-append-le p es (e ∷ []) (omega arith))
 
-reply_of-last : (w : World) (es : List Entry) (e : Entry) → reply_of w (es ++ e ∷ []) (length es) ≡ Some (reply_to w.decls (fold_of w es) e.call)
-reply_of-last w es e =
-    ap (λ o. option_map (λ x. reply_to w.decls (fold_of w (take (length es) (es ++ e ∷ []))) x.call) o) (slice_get-last es e)
-    ∙ ap (λ xs. Some (reply_to w.decls (fold_of w xs) e.call)) (take-append_seam es (e ∷ []))
-
+-- there is no reply past the last entry
 reply_of-past : (w : World) (es : List Entry) (p : ℕ) → length es ≤ p → reply_of w es p ≡ None
 reply_of-past w es p l = ap (λ o. option_map (λ x. reply_to w.decls (fold_of w (take p es)) x.call) o) (slice_get_past es p l)
 
+-- what is read by one entry more is what is replied to it
 replies_on : (w : World) (history : List Entry) (replies : List (Option ℕ)) (e : Entry) (r : Option ℕ) → length replies ≡ length history → ((place : ℕ) → reply_in replies place ≡ value_in (reply_of w history place))
     → r ≡ value_in (Some (reply_to w.decls (fold_of w history) e.call)) → (place : ℕ) → reply_in (replies ++ r ∷ []) place ≡ value_in (reply_of w (history ++ e ∷ []) place)
 replies_on w history replies e r same old is place = elim (nat_lt place (length history)) as (λ t. nat_lt place (length history) ≡ t → reply_in (replies ++ r ∷ []) place ≡ value_in (reply_of w (history ++ e ∷ []) place)) [
@@ -76,10 +71,11 @@ replies_on w history replies e r same old is place = elim (nat_lt place (length 
     | false ↦ λ u.
         let here : place ≡ length history = grind (arith, nat_tests) in
         ap (λ k. reply_in (replies ++ r ∷ []) k) (here ∙ sym same) ∙ ap (λ o. option_and_then (λ x. x) o) (slice_get-last replies r) ∙ is
-        ∙ ap value_in (sym (reply_of-last w history e)) ∙ ap (λ k. value_in (reply_of w (history ++ e ∷ []) k)) (sym here)
+        ∙ ap value_in (sym (reply_of-push w history e)) ∙ ap (λ k. value_in (reply_of w (history ++ e ∷ []) k)) (sym here)
   ] refl
 ] refl
 
+-- a commit of the current call
 pub Made-commit : (w : World) (content : ℕ → Contents) (history : List Entry) (replies : List (Option ℕ)) (e : Entry)
     → call_of w e.turn.session e.turn.number ≡ Some e.call → All (λ f. f.turn.session ≡ e.turn.session → f.turn.number < e.turn.number) history
     → Made w content history replies → Made w (λ l. content_after w.decls e.call l (content l)) (history ++ e ∷ []) (replies ++ read_by w.decls content e.call ∷ [])
@@ -87,11 +83,12 @@ Made-commit w content history replies e is above h = record {
   called = All-push (λ x. call_of w x.turn.session x.turn.number ≡ Some x.call) history e h.called is;
   rising = all_pairs_push Rises history e h.rising (λ k d l. above k d l);
   contents = λ l. ap (content_after w.decls e.call l) (h.contents l) ∙ content_after-cut w.decls (fold_of w history) e.call l
-      ∙ ap (λ m. cut w.decls m l) (sym (fold_push (λ m x. after_call m x.call) (base_of w) history e));
+      ∙ ap (λ m. cut w.decls m l) (sym (fold_of-push w history e));
   counted = let old = h.counted in omega (arith, length-append replies (read_by w.decls content e.call ∷ []), length-append history (e ∷ []));
   replies = replies_on w history replies e (read_by w.decls content e.call) h.counted h.replies (read_is w.decls content (fold_of w history) e.call h.contents);
 }
 
+-- nothing is made at the opening
 pub Made-opened : (w : World) → Made w (λ l. cut w.decls (base_of w) l) [] []
 Made-opened w = record {
   called = All-nil (λ e. call_of w e.turn.session e.turn.number ≡ Some e.call);

@@ -1,4 +1,4 @@
-ghost use Rattle.std.specs.Prelude.{◌≡◌, ◌≤◌, ◌==◌, true, IsTrue, sum_by};
+ghost use Rattle.std.specs.Prelude.{◌≡◌, ◌==◌, true, IsTrue};
 ghost use Rattle.std.specs.List.{list_any};
 ghost use Rattle.std.specs.Cmp.Lexicographic.{pointwise};
 ghost use Rattle.dt_model.specs.Tensors.{latch_of, latch_count, tensor_named};
@@ -10,7 +10,7 @@ ghost use Rattle.dt_model.specs.declared.calls.Update.{Update};
 ghost use Rattle.commit_core.specs.Machine.{commit_needs, journal_latch};
 ghost use Rattle.commit_core.specs.Valid.{updates_are_valid};
 
-use dt_model::{Call, Cell, Decls, Expr, Name, TensorDecl, Update, latch_count, latch_of};
+use dt_model::{Call, Cell, Decls, Expr, Name, Update, latch_count, latch_of, latches_in};
 
 /// The cell that an update changes.
 pub fn cell_of(update: &Update) -> &Cell
@@ -35,17 +35,6 @@ fn updates_need(decls: &Decls, updates: &[Update], latch: u32) -> bool
     false
 }
 
-fn latches_before(tensors: &[TensorDecl]) -> u32
-    requires few { sum_by (λ t. t.latches) tensors.now ≤ 1024 }
-    ensures value { result ≡ sum_by (λ t. t.latches) tensors.now }
-{
-    let mut sum = 0;
-    for tensor in tensors {
-        sum += tensor.latches;
-    }
-    sum
-}
-
 fn place_of(decls: &Decls, name: &Name) -> Option<usize>
     ensures value { result ≡ tensor_named decls.now name.now }
 {
@@ -64,7 +53,7 @@ fn tensor_has(decls: &Decls, name: &Name, latch: u32) -> bool
         None => false,
         Some(place) => {
             let tensors = decls.tensors.as_slice();
-            let first = latches_before(&tensors[..place]);
+            let first = latches_in(&tensors[..place]);
             first <= latch && latch < first + tensors[place].latches
         }
     }

@@ -5,6 +5,7 @@ pub mod LatchLemmas
 pub mod NumberWords
 pub mod Growing
 pub mod Histories
+pub mod LastEntry
 pub mod Lengths
 pub mod Lines
 pub mod ReportWords

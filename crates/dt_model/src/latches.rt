@@ -27,7 +27,8 @@ pub fn latch_count(decls: &Decls) -> u32
     latches_in(decls.tensors.as_slice())
 }
 
-fn latches_in(tensors: &[TensorDecl]) -> u32
+/// How many latches these tensors have. Of those before a tensor it is the number of its first latch.
+pub fn latches_in(tensors: &[TensorDecl]) -> u32
     requires few { sum_by (λ t. t.latches) tensors.now ≤ 1024 }
     ensures value { result ≡ sum_by (λ t. t.latches) tensors.now }
 {

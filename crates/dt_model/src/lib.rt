@@ -33,7 +33,7 @@ mod tests;
 pub use calls::{Call, Cell, Entry, Journal, Turn, Update, Updates};
 pub use declared_tensors::{Decls, Kind, Links, Schema, Schemas, TensorDecl, Tensors};
 pub use keep::Keep;
-pub use latches::{latch_count, latch_of};
+pub use latches::{latch_count, latch_of, latches_in};
 pub use lists::{Back, Listed, NoMemory};
 pub use names::Name;
 pub use places::{Coords, Vars};
