@@ -1,17 +1,19 @@
 -- Worked examples of fibers and latches.
-use Rattle.std.proofs.Common.{◌≡◌, [], ◌∷◌, refl, map}
+use Rattle.std.proofs.Common.{◌≡◌, ℕ, List, [], ◌∷◌, refl, map}
 use Rattle.std.specs.Prelude.{codes}
 use Rattle.dt_model.specs.declared.declared_tensors.Decls.{Decls}
 use Rattle.dt_model.specs.declared.calls.Call.TheVariants.{Get, Query}
 use Rattle.dt_model.specs.declared.replies.World.{World}
 use Rattle.dt_model.specs.declared.statements.Expr.TheVariants.{Access}
+use Rattle.dt_model.specs.Contents.{Contents}
+use Rattle.dt_model.specs.Runs.{fold_of, cut}
 use Rattle.dt_model.specs.Tensors.{latch_of, latch_count, width_in}
 use Rattle.dt_model.specs.Latches.{latches_of}
 use Rattle.dt_model.specs.Refusals.{WrittenBatch, Whole}
 use Rattle.dt_model.proofs.Examples.{declared, vector, statement, set_of, add_of, world_of, entries_of}
 
 -- v has dimension 4 and 2 latches, u has dimension 3 and 1 latch
-abbrev two_vectors : Decls
+abbrev pub two_vectors : Decls
 two_vectors = declared (vector (codes "v") 4 2 ∷ vector (codes "u") 3 1 ∷ [])
 
 -- of dimension 4 with 2 latches the coordinates 1 and 2 are in fiber 0, and 3 and 4 in fiber 1
@@ -57,3 +59,15 @@ latches_of_get = refl
 -- a(i) = v(i) needs all latches of v
 pub latches_of_query : latches_of two_vectors (Query (statement (codes "a") (codes "i" ∷ []) (0 ∷ []) (Access (codes "v") (0 ∷ [])))) ≡ 0 ∷ 1 ∷ []
 latches_of_query = refl
+
+-- the contents after the batch
+abbrev after_batch : Contents
+after_batch = fold_of four_updates (entries_of four_updates ((1, 1) ∷ []))
+
+-- the numbers in the cells 1 and 4 of v and 2 of u
+abbrev written_cells : Contents → List ℕ
+written_cells m = m 0 (0 ∷ []) ∷ m 0 (3 ∷ []) ∷ m 1 (1 ∷ []) ∷ []
+
+-- each latch's cut has the cells of its own fiber, and the cut of the journal's latch has none
+pub cuts_of_batch : map (λ w. written_cells (cut two_vectors after_batch w)) (0 ∷ 1 ∷ 2 ∷ 3 ∷ []) ≡ (6 ∷ 0 ∷ 0 ∷ []) ∷ (0 ∷ 2 ∷ 0 ∷ []) ∷ (0 ∷ 0 ∷ 9 ∷ []) ∷ (0 ∷ 0 ∷ 0 ∷ []) ∷ []
+cuts_of_batch = refl

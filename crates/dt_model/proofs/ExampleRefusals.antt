@@ -58,7 +58,7 @@ abbrev asked : List ℕ → Expr → Stmt
 asked left right = statement (codes "a") (codes "i" ∷ codes "j" ∷ []) left right
 
 -- b has dimension 2, B is 2 by 3, C is 2 by 2, v has dimension 5
-abbrev some_tensors : Decls
+abbrev pub some_tensors : Decls
 some_tensors = declared (vector (codes "b") 2 1 ∷ matrix (codes "B") 2 3 ∷ matrix (codes "C") 2 2 ∷ vector (codes "v") 5 1 ∷ [])
 
 -- a(i,j) = b(i) + C(i,j): the first term doesn't cover j

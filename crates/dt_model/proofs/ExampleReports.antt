@@ -9,7 +9,7 @@ use Rattle.dt_model.specs.Report.{report, history}
 use Rattle.dt_model.proofs.Examples.{declared, vector, statement, set_of, add_of, set_line, add_line, minus, world_of, entries_of, session_over_v}
 
 -- set v 2 7 / get v 2
-abbrev set_then_get : World
+abbrev pub set_then_get : World
 set_then_get = session_over_v (set_line (codes "v") (2 ∷ []) (Whole 7) ∷ WrittenGet (codes "v") (2 ∷ []) ∷ [])
 
 -- a get reads what was set before it

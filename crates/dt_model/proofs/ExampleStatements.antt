@@ -19,11 +19,11 @@ cells_of_B = (0 ∷ 0 ∷ [], 1) ∷ (0 ∷ 1 ∷ [], 2) ∷ (1 ∷ 1 ∷ [], 3)
 abbrev cells_of_C : List (List ℕ × ℕ)
 cells_of_C = (0 ∷ 0 ∷ [], 4) ∷ (1 ∷ 0 ∷ [], 5) ∷ (1 ∷ 1 ∷ [], 6) ∷ []
 
-abbrev two_matrices : Decls
+abbrev pub two_matrices : Decls
 two_matrices = declared (matrix (codes "B") 2 2 ∷ matrix (codes "C") 2 2 ∷ [])
 
 -- A(i,j) = B(i,k) * C(k,j)
-abbrev product : Stmt
+abbrev pub product : Stmt
 product = statement (codes "A") (codes "i" ∷ codes "j" ∷ codes "k" ∷ []) (0 ∷ 1 ∷ []) (Times (Access (codes "B") (0 ∷ 2 ∷ [])) (Access (codes "C") (2 ∷ 1 ∷ [])))
 
 abbrev product_run : World
@@ -47,7 +47,7 @@ unfolding digits Rattle.dt_model.specs.declared.statements.Expr.TheBlock.hidden-
 sum_with_transposed = refl
 
 -- A is 2 by 2 and has (1,1) 1 and (1,2) 1; x has 2 and 3; z has 10 and 20
-abbrev affine_tensors : Decls
+abbrev pub affine_tensors : Decls
 affine_tensors = declared (matrix (codes "A") 2 2 ∷ vector (codes "x") 2 1 ∷ vector (codes "z") 2 1 ∷ [])
 
 -- y(i) = A(i,j) * x(j) + z(i)

@@ -2,6 +2,8 @@
 use Rattle.std.proofs.Common.{ℕ, List, [], ◌∷◌, map, Some, true, false}
 use Rattle.std.specs.Prelude.{codes, ◌^◌, ◌-◌}
 use Rattle.std.specs.List.{filter_map}
+use Rattle.dt_model.specs.declared.declared_tensors.Links.TheVariants.{Flat}
+use Rattle.dt_model.specs.declared.declared_tensors.Schema.{Schema}
 use Rattle.dt_model.specs.declared.declared_tensors.TensorDecl.{TensorDecl}
 use Rattle.dt_model.specs.declared.declared_tensors.Decls.{Decls}
 use Rattle.dt_model.specs.declared.calls.Entry.{Entry}
@@ -20,9 +22,13 @@ vector name dim latches = record { name = name; dims = dim ∷ []; formats = rec
 abbrev pub matrix : List ℕ → ℕ → ℕ → TensorDecl
 matrix name rows columns = record { name = name; dims = rows ∷ columns ∷ []; formats = record { items = 0 ∷ 0 ∷ [] }; latches = 1 }
 
--- these tensors are declared
+-- the schema `flat`: one node without links
+abbrev pub flat : Schema
+flat = record { name = codes "flat"; kinds = record { items = (record { name = codes "flat"; lo = 1; hi = 16; links = Flat }) ∷ [] }; root = codes "flat" }
+
+-- these tensors are declared, over the schema `flat` alone
 abbrev pub declared : List TensorDecl → Decls
-declared tensors = record { schemas = []; tensors = tensors }
+declared tensors = record { schemas = flat ∷ []; tensors = tensors }
 
 -- `set NAME COORDS VALUE` and `add NAME COORDS VALUE`
 abbrev pub set_of : List ℕ → List ℕ → WrittenNumber → WrittenUpdate

@@ -16,3 +16,4 @@ pub mod ExampleStatements
 pub mod ExampleRefusals
 pub mod ExampleLatches
 pub mod ExampleReports
+pub mod ExampleRules

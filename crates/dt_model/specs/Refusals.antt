@@ -117,11 +117,6 @@ repeated_in (v ∷ vs) = if has vs v then Some v else repeated_in vs
 abbrev pub repeated_fault : List (List ℕ) → List ℕ → Option Refusal
 repeated_fault names vs = option_map (λ v. because.Repeated (nth_name names v)) (repeated_in vs)
 
--- whether a list has no element
-abbrev pub is_empty_list : {X : Type 0} → List X → Bool
-is_empty_list [] = true
-is_empty_list (x ∷ xs) = false
-
 -- whether an expression covers variable i: a sum where both sides do, a product where either factor does
 abbrev pub covers : Expr → ℕ → Bool
 covers (Literal v) i = false
@@ -133,7 +128,7 @@ covers (Negate' s (more_of-Expr a end_of-Expr)) i = covers a i
 
 -- a term without an access; terms are counted from 0 here and from 1 in the refusal
 abbrev pub access_fault : ℕ × (Bool × Expr) → Option Refusal
-access_fault p = when (is_empty_list (accesses p.1.1)) (because.Access (p.0 + 1))
+access_fault p = when (length (accesses p.1.1) == 0) (because.Access (p.0 + 1))
 
 -- a term that doesn't cover a variable of the left side or one of its own, with the first such variable
 abbrev pub cover_fault : Stmt → ℕ × (Bool × Expr) → Option Refusal

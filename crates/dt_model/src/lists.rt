@@ -4,9 +4,11 @@ ghost use Rattle.std.specs.Cmp.Lexicographic.{pointwise, lists_per, lists_equiv}
 
 use std::alloc::Global;
 use std::marker::Model;
+use thiserror::Error;
 
 /// An allocation was refused.
-#[derive(Clone, Copy, Debug, PartialEq, Eq)]
+#[derive(Clone, Copy, Debug, PartialEq, Eq, Error)]
+#[error("no memory was found, where a call needs some")]
 pub struct NoMemory;
 
 /// An allocation was refused, and the argument comes back.

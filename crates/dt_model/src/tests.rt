@@ -169,6 +169,41 @@ fn product(alloc: Global, x: Name, y: Name, i: Name) -> Result<Stmt, Fail> {
     })
 }
 
+fn is_access_of_x(expr: &Expr) -> bool {
+    match expr {
+        Expr::Access { tensor, vars } => tensor.bytes() == b"x".as_slice()
+            && vars.as_slice() == [0].as_slice(),
+        _ => false,
+    }
+}
+
+fn is_minus_three(expr: &Expr) -> bool {
+    match expr {
+        Expr::Negate(inner) => matches!(inner.get(), Expr::Literal(3)),
+        _ => false,
+    }
+}
+
+fn is_right_side(expr: &Expr) -> bool {
+    match expr {
+        Expr::Plus(access, minus) => is_access_of_x(access.get()) && is_minus_three(minus.get()),
+        _ => false,
+    }
+}
+
+fn is_product(call: &Call) -> bool {
+    match call {
+        Call::Query(stmt) => {
+            stmt.name.bytes() == b"y".as_slice()
+                && stmt.vars.len() == 1
+                && stmt.vars.iter().all(|name| name.bytes() == b"i".as_slice())
+                && stmt.left.as_slice() == [0].as_slice()
+                && is_right_side(&stmt.right)
+        }
+        _ => false,
+    }
+}
+
 #[test]
 fn copies_are_equal(rt: HostRuntime) -> Result<(), Fail> {
     let alloc = rt.alloc();
@@ -190,7 +225,9 @@ fn copies_are_equal(rt: HostRuntime) -> Result<(), Fail> {
         },
         call: Call::Query(product(alloc, x, y, i)?),
     };
-    assert!(rt; matches!(entry.copy(alloc)?.call, Call::Query(_)));
+    let copied = entry.copy(alloc)?;
+    assert_eq!(rt; copied.turn, entry.turn);
+    assert!(rt; is_product(&copied.call));
     assert_eq!(rt; updates.copy(alloc)?, updates);
     Ok(())
 }
