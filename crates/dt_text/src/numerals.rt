@@ -6,13 +6,16 @@ ghost use Rattle.dt_text.specs.Numerals.{index_in_range, whole_of, positive_in_r
 
 use dt_model::NoMemory;
 use itoa::Buffer;
+use thiserror::Error;
 
 /// Why a word is no index.
-#[derive(Clone, Copy, Debug, PartialEq, Eq)]
+#[derive(Clone, Copy, Debug, PartialEq, Eq, Error)]
 pub enum IndexFault {
     /// It isn't one or more decimal digits.
+    #[error("the word is no index, which has one or more decimal digits")]
     Form,
     /// Its number is above 4,294,967,295.
+    #[error("the index is above 4294967295, the greatest allowed")]
     Range,
 }
 
@@ -73,7 +76,7 @@ const MOST: u128 = 1 << 64;
 
 /// The number of a word of one or more decimal digits, or 2^64 where it is more.
 fn digits(word: &[u8]) -> Option<u128>
-    ensures { result ≡ option_map (λ n. min n (2 ^ 64)) (number_of word.now) }
+    ensures value { result ≡ option_map (λ n. min n (2 ^ 64)) (number_of word.now) }
 {
     if word.is_empty() {
         return None;
@@ -122,7 +125,7 @@ pub fn read_whole(word: &[u8]) -> Option<u64>
 }
 
 fn negative(number: Option<u128>) -> Option<u64>
-    ensures { result ≡ negative_in_range number }
+    ensures value { result ≡ negative_in_range number }
 {
     match number {
         Some(number) if number <= 1 << 63 => Some((number as u64).wrapping_neg()),
@@ -131,7 +134,7 @@ fn negative(number: Option<u128>) -> Option<u64>
 }
 
 fn positive(number: Option<u128>) -> Option<u64>
-    ensures { result ≡ positive_in_range number }
+    ensures value { result ≡ positive_in_range number }
 {
     match number {
         Some(number) if number < MOST => Some(number as u64),

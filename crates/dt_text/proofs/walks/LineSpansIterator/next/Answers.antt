@@ -14,8 +14,8 @@ returns-clause-steps c =
     let rest = take (length text - at) (drop at text) in
     let some : 0 < length rest = grind (arith, nat_tests, c.is_empty.ensures, c.if-is_empty.false) in
     elim c.if-end-rest.branch [
-      | then-end-rest w ↦ rw (c.cut_return.ensures, w.self-is) (line_spans-at text rest at c.line_end-end.result (take_rest text at) w.if-end-rest.true (found.at w.if-end-rest.true) found.before)
-      | else-end-rest w ↦ rw (c.cut_return.ensures, w.self-is) (line_spans-last text rest at c.line_end-end.result (take_rest text at) some w.if-end-rest.false found.before)
+      | then-end-rest w ↦ rw (c.cut_return.ensures.value, w.self-is) (line_spans-at text rest at c.line_end-end.result (take_rest text at) w.if-end-rest.true (found.at w.if-end-rest.true) found.before)
+      | else-end-rest w ↦ rw (c.cut_return.ensures.value, w.self-is) (line_spans-last text rest at c.line_end-end.result (take_rest text at) some w.if-end-rest.false found.before)
     ]
 
 pub returns-clause-goes : goal.returns-clause-goes
