@@ -9,7 +9,9 @@ use std::alloc::Global;
 /// A file in memory.
 #[derive(Drop)]
 pub struct HeldFile {
+    /// The bytes of its name.
     pub name: Vec<u8>,
+    /// What it has.
     pub bytes: Vec<u8>,
 }
 
@@ -45,7 +47,7 @@ pub(crate) fn put(
 
 /// The bytes that were put last under a name.
 pub(crate) fn find<'a>(files: &'a [HeldFile], name: &[u8]) -> Option<&'a [u8]>
-    ensures { MatchOption result (held_under files.now name.now ≡ None) (λ bytes. held_under files.now name.now ≡ Some bytes.now) }
+    ensures content { MatchOption result (held_under files.now name.now ≡ None) (λ bytes. held_under files.now name.now ≡ Some bytes.now) }
 {
     let mut found = None;
     for file in files {
@@ -58,7 +60,7 @@ pub(crate) fn find<'a>(files: &'a [HeldFile], name: &[u8]) -> Option<&'a [u8]>
 
 /// Copies a file of at most `limit` bytes into an empty buffer.
 pub(crate) fn fill(into: &mut Vec<u8>, bytes: &[u8], limit: u64) -> Result<(), FetchFault>
-    requires { into.old.items ≡ [] }
+    requires fresh { into.old.items ≡ [] }
     ensures ok { OnOk result ((into.new.items ≡ bytes.now) × (length bytes.now ≤ limit)) }
     ensures large { result ≡ Err FetchFault.TooLarge → (into.new.items ≡ bytes.now) × (limit < length bytes.now) }
     ensures no_failure { result ≢ Err FetchFault.Failed }

@@ -88,8 +88,8 @@ impl Shelf for MemShelf {
 
 /// The bytes of a name.
 pub(crate) fn name_of(name: &str) -> ArrayVec<u8, 255>
-    requires { length name.now ≤ 255 }
-    ensures { result.items ≡ name.now }
+    requires in_range { length name.now ≤ 255 }
+    ensures value { result.items ≡ name.now }
 {
     match ArrayVec::try_from(name.as_bytes()) {
         Ok(bytes) => bytes,

@@ -1,4 +1,4 @@
-ghost use Rattle.std.specs.Prelude.{◌≡◌, ◌↔◌, ◌⊎◌, ◌+◌, ◌-◌, ◌^◌, ◌<◌, ◌≤◌, ◌++◌, [], min, take, length, Some, None, IsTrue, IsErr, MatchResult, OnOk, OnErr, IfOk, Contains, vec_len, vec_capacity, false, true, if◌then◌else◌, Ok, ◌||◌, nat_lt};
+ghost use Rattle.std.specs.Prelude.{◌≡◌, ◌↔◌, ◌⊎◌, ◌+◌, ◌-◌, ◌^◌, ◌<◌, ◌≤◌, ◌++◌, [], min, max, take, length, Some, None, IsTrue, IsErr, MatchResult, OnOk, OnErr, IfOk, Contains, vec_len, vec_capacity, false, true, if◌then◌else◌, Ok, ◌||◌, nat_lt};
 ghost use Rattle.dt_outside.specs.Faults.{Rose, Appended};
 
 use crate::sinks::{Sink, SinkFailed};
@@ -37,9 +37,10 @@ impl MemSink {
         }
     }
 
-    /// Makes room for n more bytes, where there is less.
+    /// Makes room for n more bytes, where there is less. It counts as room for n, however much the
+    /// allocator gives.
     pub fn room(&mut self, n: usize) -> Result<(), NoMemory>
-        ensures ok { OnOk result (n ≤ self.new.spare) }
+        ensures ok { OnOk result (self.new.spare ≡ max self.old.spare n) }
         ensures err { OnErr result (self.new.spare ≡ self.old.spare) }
         ensures bytes { self.new.bytes.items ≡ self.old.bytes.items }
         ensures rest { (self.new.most ≡ self.old.most) × (self.new.fails ≡ self.old.fails) × (self.new.calls ≡ self.old.calls) × (self.new.faults ≡ self.old.faults) }

@@ -17,6 +17,7 @@ pub struct FileShelf<R> {
 }
 
 impl<R> FileShelf<R> {
+    /// The files of the system, read through a runtime. No fetch has failed yet.
     pub fn new(rt: R) -> FileShelf<R>
         ensures fresh { result.faults ≡ 0 }
     {
@@ -71,6 +72,7 @@ pub struct StreamSink<R> {
 }
 
 impl<R> StreamSink<R> {
+    /// The standard output of a runtime. No write has failed yet.
     pub fn new(rt: R) -> StreamSink<R>
         ensures fresh { result.faults ≡ 0 }
     {

@@ -1,14 +1,19 @@
 ghost use Rattle.std.specs.Prelude.{◌≡◌, ℕ, ◌≤◌, ◌<◌, List, [], length, Option, Some};
 ghost use Rattle.dt_outside.specs.Faults.{IsFetch};
 
+use thiserror::Error;
+
 /// Why a file did not come.
-#[derive(Clone, Copy, Debug, PartialEq, Eq)]
+#[derive(Clone, Copy, Debug, PartialEq, Eq, Error)]
 pub enum FetchFault {
     /// The shelf failed: the name isn't there, or it can't be read.
+    #[error("no file was read under the name, which has to be that of a file that can be read")]
     Failed,
     /// The file has more bytes than the limit.
+    #[error("the file has more bytes than the limit allows")]
     TooLarge,
     /// No memory was found for the bytes.
+    #[error("no memory was found, where the file's bytes need some")]
     NoMemory,
 }
 

@@ -1,8 +1,11 @@
 ghost use Rattle.std.specs.Prelude.{◌≡◌, ℕ, ◌≤◌, ◌<◌, List, length, take, Option, IfOk, OnOk, OnErr};
 ghost use Rattle.dt_outside.specs.Faults.{Rose, Appended};
 
+use thiserror::Error;
+
 /// A write failed.
-#[derive(Clone, Copy, Debug, PartialEq, Eq)]
+#[derive(Clone, Copy, Debug, PartialEq, Eq, Error)]
+#[error("a write took no byte, where it has to take one at least")]
 pub struct SinkFailed;
 
 /// Where bytes go. `written` is what was written, where the sink tells it; one that doesn't tell it
