@@ -72,6 +72,7 @@ pub fn write_number(number: u32, into: &mut Vec<u8>) -> Result<(), NoMemory>
     append(into, buffer.format(number).as_bytes())
 }
 
+/// Where the number of a word stands still: past every number that a numeral may write.
 const MOST: u128 = 1 << 64;
 
 /// The number of a word of one or more decimal digits, or 2^64 where it is more.

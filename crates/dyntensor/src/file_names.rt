@@ -5,10 +5,13 @@ ghost use Rattle.dyntensor.specs.FileNames.{is_file_name};
 use arrayvec::ArrayVec;
 use std::marker::Model;
 
+/// The most bytes of a file's name.
+pub const FILE_NAME_LIMIT: usize = 255;
+
 /// The name of a file: 1 to 255 bytes of UTF-8.
 #[derive(Debug, Drop, PartialEq, Eq)]
 pub struct FileName {
-    bytes: ArrayVec<u8, 255>,
+    bytes: ArrayVec<u8, FILE_NAME_LIMIT>,
 }
 
 impl Model for FileName {
@@ -36,7 +39,7 @@ fn is_utf8(bytes: &[u8]) -> bool
 fn is_name(bytes: &[u8]) -> bool
     ensures value { result ≡ is_file_name bytes.now }
 {
-    bytes.len() >= 1 && bytes.len() <= 255 && is_utf8(bytes)
+    bytes.len() >= 1 && bytes.len() <= FILE_NAME_LIMIT && is_utf8(bytes)
 }
 
 impl FileName {

@@ -5,13 +5,11 @@ ghost use Rattle.dyntensor.specs.Workload.{counted, within_limit, tensor_of_word
 
 use crate::file_names::FileName;
 use crate::plans::{FlatTensor, Plan};
-use crate::rows::{is_text, next_row};
+use crate::rows::{LINE_LIMIT, is_text, next_row};
 use dt_model::Name;
 use dt_text::{first_word, read_index};
 
-/// The most bytes of a line that counts.
-pub const LINE_LIMIT: usize = 4096;
-
+/// The most latches of a tensor.
 const MOST_LATCHES: u32 = 256;
 
 /// The number of a word of digits, from 1 to the most.

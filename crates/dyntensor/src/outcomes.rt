@@ -5,7 +5,7 @@ ghost use Rattle.dyntensor.specs.Endings.{IsEnding, IsRunEnding, status_due, tex
 ghost use Rattle.dyntensor.specs.Stops.{seen, IsOneSession};
 ghost use Rattle.dyntensor.specs.Workload.{first_script};
 
-use crate::file_names::FileName;
+use crate::file_names::{FILE_NAME_LIMIT, FileName};
 use crate::plans::{Cause, Fault};
 use crate::runs::run_report;
 use crate::workloads::{Stop, read_world};
@@ -14,6 +14,9 @@ use dt_model::{NoMemory, World};
 use dt_outside::{Shelf, Sink, write_all};
 use dt_text::{append, write_number};
 use std::alloc::Global;
+
+/// The most bytes of the line `shelf FILE`: 7 more than a file's name has.
+const SHELF_LINE_LIMIT: usize = 262;
 
 const USAGE: &[u8] = b"usage: dyntensor run MANIFEST | check SCHEMAS | sample N\n";
 
@@ -41,7 +44,7 @@ fn manifest_name(words: &[String]) -> Option<&str>
 {
     match words {
         [run, name] => {
-            if run.as_str() == "run" && name.len() >= 1 && name.len() <= 255 {
+            if run.as_str() == "run" && name.len() >= 1 && name.len() <= FILE_NAME_LIMIT {
                 Some(name.as_str())
             } else {
                 None
@@ -68,7 +71,7 @@ fn write_fault(alloc: Global, fault: &Fault) -> Result<Vec<u8>, NoMemory>
 }
 
 /// Appends bytes, for which there is room.
-fn put(line: &mut ArrayVec<u8, 262>, bytes: &[u8])
+fn put(line: &mut ArrayVec<u8, SHELF_LINE_LIMIT>, bytes: &[u8])
     requires room { length line.old.items + length bytes.now ≤ 262 }
     ensures value { line.new.items ≡ line.old.items ++ bytes.now }
 {
@@ -79,7 +82,7 @@ fn put(line: &mut ArrayVec<u8, 262>, bytes: &[u8])
 }
 
 /// The line `shelf FILE`, which takes no memory.
-fn shelf_line(file: &FileName) -> ArrayVec<u8, 262>
+fn shelf_line(file: &FileName) -> ArrayVec<u8, SHELF_LINE_LIMIT>
     ensures value { result.items ≡ shelf_text file.now }
 {
     let mut line = ArrayVec::new();
@@ -95,7 +98,7 @@ fn report_of(alloc: Global, world: &World) -> Ending
     ensures run { IsRunEnding world.now result }
 {
     match world.scripts.get(0) {
-        None => Ending::NoMemory,
+        None => unreachable!(),
         Some(script) => match run_report(alloc, world, script.as_slice()) {
             Ok(text) => Ending::Report(text),
             Err(NoMemory) => Ending::NoMemory,

@@ -4,6 +4,9 @@ ghost use Rattle.dyntensor.specs.Workload.{is_text, is_useful, counted_from};
 
 use dt_text::{first_line, first_word};
 
+/// The most bytes of a line that counts, without its end.
+pub const LINE_LIMIT: usize = 4096;
+
 /// A line that counts, and the text behind it.
 #[derive(Clone, Copy)]
 pub struct Row<'a> {

@@ -5,9 +5,8 @@ ghost use Rattle.dt_model.specs.Verdicts.{verdict};
 ghost use Rattle.dyntensor.specs.Workload.{counted, written_of, decls_of, adds_of, verdict_on, script_of};
 ghost use Rattle.dyntensor.specs.Lines.{place_in, line_by, cell_at, out_of_range, verdict_on_line, IsFaultOf};
 
-use crate::manifests::LINE_LIMIT;
 use crate::plans::FlatTensor;
-use crate::rows::{is_text, next_row};
+use crate::rows::{LINE_LIMIT, is_text, next_row};
 use dt_model::{Call, Cell, Coords, NoMemory, Refusal, Update, Updates, Verdict, Verdicts};
 use dt_text::{IndexFault, first_word, read_index, read_whole};
 use std::alloc::Global;

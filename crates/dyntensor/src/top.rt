@@ -36,6 +36,7 @@ pub fn top_run<S: Shelf, K: Sink, G: Gate + Sync>(
     ensures complete { (Rose (S.faults shelf.old) (S.faults shelf.new) → ⊥) → (Rose (K.faults sink.old) (K.faults sink.new) → ⊥) → IfSome (S.files shelf.old) (λ files. IfSome (manifest_of (map string_bytes words.now)) (λ manifest. Completes files manifest result)) }
     ensures files { S.files shelf.new ≡ S.files shelf.old }
 {
+    // The calls that will keep a gate take it from the first step on; a run on one thread meets none.
     let _ = gate;
     let ending = ending_of(alloc, words, shelf);
     print(sink, &ending)
