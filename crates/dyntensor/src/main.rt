@@ -24,24 +24,57 @@ mod tests;
 mod top;
 mod workloads;
 
+use crate::file_names::FILE_NAME_LIMIT;
 use crate::outcomes::{Ending, print};
 use crate::top::top_run;
 use dt_model::NoMemory;
 use dt_outside::{FileShelf, OpenGate, StreamSink};
-use std::env;
-use std::io::ErrorKind;
+use std::env::{Env, FillError};
 use std::process::ExitCode;
 
-/// The words behind the program's name; none where one of them isn't UTF-8.
-fn words_of(rt: &HostRuntime) -> Result<Vec<String>, NoMemory> {
-    match env::args(rt) {
-        Ok(args) => match args.skip(1).collect(rt.alloc()) {
-            Ok(words) => Ok(words),
-            Err(_) => Err(NoMemory),
-        },
-        Err(fault) if fault.kind() == ErrorKind::OutOfMemory => Err(NoMemory),
-        Err(_) => Ok(Vec::new(rt.alloc())),
+/// What stands at a place of the command line.
+#[derive(Drop)]
+enum Word {
+    /// At most 255 bytes of UTF-8.
+    Text(String),
+    /// Other bytes, which are no word of a command.
+    Other,
+    /// Nothing: the line ends before this place.
+    End,
+}
+
+fn word_at(rt: &HostRuntime, place: usize) -> Result<Word, NoMemory> {
+    let mut buffer = [0; FILE_NAME_LIMIT];
+    let len = match rt.arg(place, &mut buffer) {
+        Ok(len) => len,
+        Err(FillError::NotPresent) => return Ok(Word::End),
+        Err(FillError::TooLong) => return Ok(Word::Other),
+    };
+    let Ok(text) = std::str::from_utf8(&buffer[..len]) else {
+        return Ok(Word::Other);
+    };
+    match String::from_str(rt.alloc(), text) {
+        Ok(word) => Ok(Word::Text(word)),
+        Err(_) => Err(NoMemory),
     }
+}
+
+/// The words behind the program's name, which itself may be of any bytes; none where one of them is
+/// no word of a command.
+fn words_of(rt: &HostRuntime) -> Result<Vec<String>, NoMemory> {
+    let mut words = Vec::new(rt.alloc());
+    for place in 1..usize::MAX {
+        match word_at(rt, place)? {
+            Word::Text(word) => {
+                if words.push(word).is_err() {
+                    return Err(NoMemory);
+                }
+            }
+            Word::Other => return Ok(Vec::new(rt.alloc())),
+            Word::End => break,
+        }
+    }
+    Ok(words)
 }
 
 fn main(rt: HostRuntime) -> ExitCode {
