@@ -55,16 +55,16 @@ AllTold-IsOrder w es v o =
 -- ---- the row that begins the history
 
 -- a row whose first word isn't `history`
-abbrev pub is_quiet : List (List ℕ) → Bool
-is_quiet [] = true
-is_quiet (word ∷ more) = is_other word
+abbrev pub is_no_history : List (List ℕ) → Bool
+is_no_history [] = true
+is_no_history (word ∷ more) = is_other word
 
 -- rows whose first words aren't `history` are skipped
-pub turn_rows-skip : (front back : List (List (List ℕ))) → list_all is_quiet front ≡ true → turn_rows (front ++ back) ≡ turn_rows back
+pub turn_rows-skip : (front back : List (List (List ℕ))) → list_all is_no_history front ≡ true → turn_rows (front ++ back) ≡ turn_rows back
 turn_rows-skip [] back h = refl
-turn_rows-skip ([] ∷ front) back h = turn_rows-skip front back (both_true true (list_all is_quiet front) h).1
+turn_rows-skip ([] ∷ front) back h = turn_rows-skip front back (both_true true (list_all is_no_history front) h).1
 turn_rows-skip ((word ∷ more) ∷ front) back h =
-    let both = both_true (is_other word) (list_all is_quiet front) h in
+    let both = both_true (is_other word) (list_all is_no_history front) h in
     rw (not_true _ both.0) (turn_rows-skip front back both.1)
 
 -- the row `history` tells how many turns follow

@@ -23,7 +23,7 @@ use Rattle.dt_model.specs.Report.{pair_row, call_rows, line_rows, lines_rows, re
 use Rattle.dt_model.proofs.TestLemmas.{All-rest, both_true, true_both, list_all-weaker, list_all-append}
 use Rattle.dt_model.proofs.LatchLemmas.{name_at}
 use Rattle.dt_model.proofs.NumberWords.{is_word-decimal, is_word-value_word, is_other-decimal, is_other-value_word}
-use Rattle.dt_model.proofs.Histories.{is_quiet}
+use Rattle.dt_model.proofs.Histories.{is_no_history}
 
 -- ---- names
 
@@ -45,11 +45,11 @@ is_word-is_name (b ∷ bs) h =
 
 -- words, of which the first isn't `history`
 abbrev pub is_good : List (List ℕ) → Bool
-is_good row = list_all is_word row && is_quiet row
+is_good row = list_all is_word row && is_no_history row
 
 pair_good : (coords : List ℕ) (v : ℕ) → is_good (map (λ c. decimal (c + 1)) coords ++ value_word v ∷ []) ≡ true
 pair_good [] v = rw (is_word-value_word v, is_other-value_word v) refl
-pair_good (c ∷ cs) v = true_both _ (is_quiet (decimal (c + 1) ∷ [])) (words (c ∷ cs)) (is_other-decimal (c + 1))
+pair_good (c ∷ cs) v = true_both _ (is_no_history (decimal (c + 1) ∷ [])) (words (c ∷ cs)) (is_other-decimal (c + 1))
   where
     words : (xs : List ℕ) → list_all is_word (map (λ x. decimal (x + 1)) xs ++ value_word v ∷ []) ≡ true
     words [] = rw (is_word-value_word v) refl
@@ -102,10 +102,10 @@ sessions_good w es s (vs ∷ scripts) h =
     (sessions_good w es (s + 1) scripts both.1)
 
 pub good_words : (row : List (List ℕ)) → is_good row ≡ true → list_all is_word row ≡ true
-good_words row h = (both_true (list_all is_word row) (is_quiet row) h).0
+good_words row h = (both_true (list_all is_word row) (is_no_history row) h).0
 
-pub good_quiet : (row : List (List ℕ)) → is_good row ≡ true → is_quiet row ≡ true
-good_quiet row h = (both_true (list_all is_word row) (is_quiet row) h).1
+pub good_no_history : (row : List (List ℕ)) → is_good row ≡ true → is_no_history row ≡ true
+good_no_history row h = (both_true (list_all is_word row) (is_no_history row) h).1
 
 -- ---- rows after the history
 

@@ -1,5 +1,6 @@
 pub mod Names
 pub mod JournalValue
+pub mod Calls
 pub mod Contents
 pub mod Tensors
 pub mod Statements

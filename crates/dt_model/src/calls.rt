@@ -1,5 +1,6 @@
-ghost use Rattle.std.specs.Prelude.{◌≡◌, ◌+◌, ◌<◌, ◌≤◌, [], ◌∷◌, ◌++◌, length, slice_get, IfOk};
+ghost use Rattle.std.specs.Prelude.{◌≡◌, ◌+◌, ◌<◌, ◌≤◌, [], ◌∷◌, ◌++◌, length, slice_get, IfOk, OnErr};
 ghost use Rattle.std.specs.Option.{option_copied};
+ghost use Rattle.dt_model.specs.Calls.{IsNoGet};
 
 use crate::lists::{Listed, NoMemory};
 use crate::places::Coords;
@@ -85,9 +86,10 @@ pub enum Call {
 }
 
 impl Call {
-    /// An equal call.
+    /// An equal call. A get takes no memory.
     pub fn copy(&self, alloc: Global) -> Result<Call, NoMemory>
         ensures value { IfOk result (λ call. call ≡ self.now) }
+        ensures get { OnErr result (IsNoGet self.now) }
     {
         match self {
             Call::Get(cell) => Ok(Call::Get(cell.copy())),

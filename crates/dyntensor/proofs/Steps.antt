@@ -9,9 +9,10 @@ use Rattle.dt_model.specs.declared.calls.Cell.{Cell}
 use Rattle.dt_model.specs.declared.calls.Entry.{Entry}
 use Rattle.dt_model.specs.declared.replies.Reply.{Reply}
 use Rattle.dt_model.specs.declared.replies.World.{World}
+use Rattle.dt_model.specs.Calls.{IsNoGet}
 use Rattle.dt_model.specs.Runs.{is_turn, has_turn, reply_at, call_of, base_of, Rises}
 use Rattle.dt_model.proofs.Growing.{reply_in-other, reply_in-own, reply_in-none, has_turn-push, has_turn-own}
-use Rattle.sessions.specs.Running.{Running, IsNoGet}
+use Rattle.sessions.specs.Running.{Running}
 use Rattle.dyntensor.specs.Going.{entry_at, Makes, IsEntryOf, Each, IsSoFar}
 
 pub Each-push : (P : Entry → Type 0) (es : List Entry) (e : Entry) → Each P es → P e → Each P (es ++ e ∷ [])

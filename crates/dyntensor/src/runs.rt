@@ -1,9 +1,9 @@
-ghost use Rattle.std.specs.Prelude.{◌≡◌, ◌<◌, ◌≤◌, ◌++◌, [], OnOk, OnErr, IfOk, length};
+ghost use Rattle.std.specs.Prelude.{◌≡◌, ◌<◌, ◌≤◌, ◌++◌, [], OnOk, IfOk, length};
 ghost use Rattle.dt_model.specs.Texts.{text_of};
 ghost use Rattle.dt_model.specs.Runs.{reply_at};
 ghost use Rattle.dt_model.specs.Report.{lines_rows, PrintsRun};
 ghost use Rattle.commit_core.specs.Valid.{IsWithin};
-ghost use Rattle.sessions.specs.Running.{IsNoQuery, IsNoGet, IsPlain};
+ghost use Rattle.sessions.specs.Running.{IsNoQuery, IsPlain};
 ghost use Rattle.dyntensor.specs.Going.{StepsTo, IsSoFar, MayRun, IsRun};
 ghost use Rattle.dyntensor.specs.Stops.{IsOneSession};
 
@@ -12,17 +12,6 @@ use dt_model::{Call, NoMemory, Reply, Turn, Verdict, World};
 use dt_text::append;
 use sessions::Plain;
 use std::alloc::Global;
-
-/// An equal call. A get takes no memory.
-fn copy_of(alloc: Global, call: &Call) -> Result<Call, NoMemory>
-    ensures same { IfOk result (λ copy. copy ≡ call.now) }
-    ensures get { OnErr result (IsNoGet call.now) }
-{
-    match call {
-        Call::Get(cell) => Ok(Call::Get(cell.copy())),
-        _ => call.copy(alloc),
-    }
-}
 
 /// Makes a call, or finds no memory.
 fn make_call(alloc: Global, plain: &mut Plain, number: u32, call: &Call) -> Option<Reply>
@@ -35,7 +24,7 @@ fn make_call(alloc: Global, plain: &mut Plain, number: u32, call: &Call) -> Opti
     ensures plain { IsPlain result }
 {
     let turn = Turn { session: 1, number };
-    match copy_of(alloc, call) {
+    match call.copy(alloc) {
         Ok(copy) => match plain.call(turn, copy) {
             Ok(reply) => Some(reply),
             Err(_) => None,
@@ -81,6 +70,7 @@ fn run_script(
     ensures done { OnOk result (IsSoFar world.now (length script.now) plain.new) }
     ensures rows { OnOk result (text.new.items ≡ text.old.items ++ text_of (lines_rows (reply_at world.now plain.new.entries 1) 1 script.now)) }
 {
+    // The clauses speak of the world; the code reads the script alone.
     let _ = world;
     for (i, verdict) in script.iter().enumerate() {
         let number = i as u32 + 1;

@@ -27,12 +27,6 @@ IsNoQuery (Get cell) = Unit {0}
 IsNoQuery (Batch updates) = Unit {0}
 IsNoQuery (Query stmt) = ⊥
 
--- the call is no get
-abbrev pub IsNoGet : Call → Type 0
-IsNoGet (Get cell) = ⊥
-IsNoGet (Batch updates) = Unit {0}
-IsNoGet (Query stmt) = Unit {0}
-
 -- the reply, if there is one, is no list of nonzeros
 abbrev pub IsPlain : Option Reply → Type 0
 IsPlain None = Unit {0}
