@@ -61,11 +61,6 @@ abbrev pub Each : (Entry → Type 0) → List Entry → Type 0
 Each P [] = Unit {0}
 Each P (e ∷ es) = P e × Each P es
 
--- what holds of each entry and of one more holds of all
-pub Each-push : (P : Entry → Type 0) (es : List Entry) (e : Entry) → Each P es → P e → Each P (es ++ e ∷ [])
-Each-push P [] e h p = (p, tt)
-Each-push P (x ∷ es) e h p = (h.0, Each-push P es e h.1 p)
-
 -- what follows from what holds of each entry holds of each
 pub Each-weaker : (P Q : Entry → Type 0) (es : List Entry) → ((e : Entry) → P e → Q e) → Each P es → Each Q es
 Each-weaker P Q [] f h = tt

@@ -1,10 +1,11 @@
 -- A finished run prints what it should.
 use Rattle.std.proofs.Common.{true, false, zero, suc, ◌≡◌, ℕ, ◌+◌, ◌-◌, ◌<◌, ◌≤◌, ◌++◌, Bool, List, [], ◌∷◌, length, get_or, refl, ap, sym, ◌∙◌, arith, subst, Option, Some, None}
-use Rattle.std.specs.Prelude.{if◌then◌else◌, slice_get, option_and_then, nat_le, ◌&&◌, codes}
+use Rattle.std.specs.Prelude.{if◌then◌else◌, option_and_then, nat_le, ◌&&◌, codes}
 use Rattle.std.specs.List.{flat_map, enumerate_from}
 use Rattle.std.specs.Fmt.{decimal}
 use Rattle.std.proofs.lemmas.Bool.Decides.{nat_tests}
 use Rattle.std.proofs.lemmas.Fmt.{decimal_digit}
+use Rattle.std.proofs.lemmas.Option.{none-some, slice_get_past}
 use Rattle.dt_model.specs.declared.calls.Call.{Call}
 use Rattle.dt_model.specs.declared.calls.Call.TheVariants.{Get}
 use Rattle.dt_model.specs.declared.calls.Entry.{Entry}
@@ -17,32 +18,23 @@ use Rattle.dt_model.proofs.Growing.{text_of-append}
 use Rattle.dt_model.proofs.Reports.{history-report}
 use Rattle.dt_model.proofs.TestLemmas.{append_none}
 use Rattle.sessions.specs.Running.{Running}
-use Rattle.dyntensor.specs.Going.{IsEntryOf, IsSoFar}
+use Rattle.dyntensor.specs.ScriptRun.{IsEntryOf, IsSoFar}
 use Rattle.dyntensor.specs.Stops.{IsOneSession}
 use Rattle.dyntensor.proofs.Validity.{valid_call, short_script}
-use Rattle.dyntensor.proofs.Steps.{Each-at}
 
 -- the only session is 1, and its lines are those of the script
-past_end : {X : Type 0} (xs : List X) (n : ℕ) → length xs ≤ n → slice_get xs n ≡ None
-past_end [] n h = refl
-past_end (x ∷ xs) zero h = absurd (omega arith)
-past_end (x ∷ xs) (suc n) h = past_end xs n (omega arith)
-
 none_either_way : {X : Type 0} (b : Bool) → ◌≡◌ {A = Option X} (if b then None else None) None
 none_either_way true = refl
 none_either_way false = refl
 
 no_session : (script : List Verdict) (s n : ℕ) → 1 < s → verdict_at (script ∷ []) s n ≡ None
-no_session script s n h = rw (past_end (script ∷ []) (s - 1) (omega arith)) (none_either_way (nat_le 1 s && nat_le 1 n))
+no_session script s n h = rw (slice_get_past (script ∷ []) (s - 1) (omega arith)) (none_either_way (nat_le 1 s && nat_le 1 n))
 
 no_line : (script : List Verdict) (n : ℕ) → length script < n → verdict_at (script ∷ []) 1 n ≡ None
-no_line script n h = rw (past_end script (n - 1) (omega arith)) (none_either_way (nat_le 1 n))
+no_line script n h = rw (slice_get_past script (n - 1) (omega arith)) (none_either_way (nat_le 1 n))
 
 no_call : (o : Option Verdict) (call : Call) → o ≡ None → option_and_then call_in o ≡ Some call → ⊥
-no_call o call n e = none_some (subst (λ p. option_and_then call_in p ≡ Some call) n e)
-  where
-    none_some : ◌≡◌ {A = Option Call} None (Some call) → ⊥
-    none_some e = cc
+no_call o call n e = none-some call (subst (λ p. option_and_then call_in p ≡ Some call) n e)
 
 one_session : (script : List Verdict) (s n : ℕ) (call : Call) → option_and_then call_in (verdict_at (script ∷ []) s n) ≡ Some call → s ≡ 1
 one_session script zero n call e = absurd (no_call None call refl e)
@@ -75,7 +67,7 @@ order_of w script run one h = record {
 }
   where
     entry : (k : ℕ) (d : Entry) → k < length run.entries → IsEntryOf w (length script + 1) (get_or run.entries k d)
-    entry k d l = Each-at (IsEntryOf w (length script + 1)) run.entries k d l h.entries
+    entry k d l = h.entries k d l
 
 report_is : (w : World) (script : List Verdict) (es : List Entry) → w.scripts ≡ script ∷ []
     → report w [] es ≡ (codes "session 1\n" ++ text_of (lines_rows (reply_at w es 1) 1 script)) ++ text_of (history_rows es)

@@ -4,6 +4,7 @@ use Rattle.std.specs.Prelude.{IsTrue, ◌&&◌, nat_le, if◌then◌else◌}
 use Rattle.std.proofs.lemmas.Bool.Decides.{nat_tests}
 use Rattle.std.specs.Str.{IsUtf8, is_utf8}
 use Rattle.std.proofs.lemmas.Str.{is_utf8-from_IsUtf8, IsUtf8-from_is_utf8}
+use Rattle.std.proofs.lemmas.Option.{none-some}
 use Rattle.dyntensor.specs.FileNames.{is_file_name}
 
 pub utf8-true : (bs : List ℕ) → IsUtf8 bs → true ≡ is_utf8 bs
@@ -33,7 +34,4 @@ name-from_utf8 bs low high h =
     rw (a, b, is_utf8-from_IsUtf8 bs h) refl
 
 pub always_named : (bs cs : List ℕ) (r : Option (List ℕ)) → cs ≡ bs → is_file_name bs ≡ true → r ≡ (if is_file_name cs then Some cs else None) → r ≡ None → ⊥
-always_named bs cs r same is e none = not_none cs (sym none ∙ e ∙ ap (λ b. if b then Some cs else None) (ap is_file_name same ∙ is))
-  where
-    not_none : (cs : List ℕ) → ◌≡◌ {A = Option (List ℕ)} None (Some cs) → ⊥
-    not_none cs e = cc
+always_named bs cs r same is e none = none-some cs (sym none ∙ e ∙ ap (λ b. if b then Some cs else None) (ap is_file_name same ∙ is))

@@ -2,22 +2,21 @@
 use Rattle.std.proofs.Common.{◌≡◌, ℕ, ◌-◌, ◌≤◌, ◌^◌, Bool, true, false, List, [], ◌∷◌, length, refl, ap, sym, arith, subst, Option, Some, None, Result, Ok, Err}
 use Rattle.std.specs.Prelude.{if◌then◌else◌, nat_le, ok_or, ◌&&◌, codes}
 use Rattle.std.proofs.lemmas.Bool.Decides.{nat_tests}
+use Rattle.std.proofs.lemmas.Option.{none-some}
 use Rattle.dt_model.specs.Names.{is_name}
 use Rattle.dt_model.specs.Texts.{number_of, words_of}
 use Rattle.dt_model.proofs.TestLemmas.{both_true}
 use Rattle.dyntensor.specs.declared.plans.FlatTensor.{FlatTensor}
 use Rattle.dyntensor.specs.declared.plans.Plan.{Plan}
-use Rattle.dyntensor.specs.Workload.{is_text, in_range, tensor_by, tensor_of_words, file_of_words, within_limit, then_read, plan_alone, plan_with, plan_of}
-use Rattle.dyntensor.specs.Stops.{IsGood}
-
-pub none_some : {X : Type 0} (x : X) → ◌≡◌ {A = Option X} None (Some x) → ⊥
-none_some x e = cc
+use Rattle.dyntensor.specs.Rows.{equals_text, within_limit, then_read}
+use Rattle.dyntensor.specs.Manifest.{in_range, tensor_by, tensor_of_words, file_of_words, plan_alone, plan_with, plan_of}
+use Rattle.dyntensor.specs.Stops.{IsWithinLimits}
 
 pub err_ok : {X E : Type 0} (x : X) (e : E) → ◌≡◌ {A = Result X E} (Err e) (Ok x) → ⊥
 err_ok x e h = cc
 
 in_range_some : (low high : ℕ) (o : Option ℕ) (r : ℕ) → in_range low high o ≡ Some r → (low ≤ r) × (r ≤ high)
-in_range_some low high None r e = absurd (none_some r e)
+in_range_some low high None r e = absurd (none-some r e)
 in_range_some low high (Some n) r e = elim (nat_le low n && nat_le n high) as (λ b. (nat_le low n && nat_le n high) ≡ b → (if b then Some n else None) ≡ Some r → (low ≤ r) × (r ≤ high)) [
   | true ↦ λ t s.
       let same : n ≡ r = cc in
@@ -25,37 +24,37 @@ in_range_some low high (Some n) r e = elim (nat_le low n && nat_le n high) as (�
       let a : nat_le low n ≡ true = both.0 in
       let b : nat_le n high ≡ true = both.1 in
       (grind (arith, nat_tests), grind (arith, nat_tests))
-  | false ↦ λ t s. absurd (none_some r s)
+  | false ↦ λ t s. absurd (none-some r s)
 ] refl e
 
-tensor_by_good : (name : List ℕ) (d l : Option ℕ) (t : FlatTensor) → is_name name ≡ true → tensor_by name (in_range 1 (2 ^ 32 - 1) d) (in_range 1 256 l) ≡ Some t → IsGood t
-tensor_by_good name d l t named e = parts (in_range 1 (2 ^ 32 - 1) d) (in_range 1 256 l) refl refl e
+tensor_by_within_limits : (name : List ℕ) (d l : Option ℕ) (t : FlatTensor) → is_name name ≡ true → tensor_by name (in_range 1 (2 ^ 32 - 1) d) (in_range 1 256 l) ≡ Some t → IsWithinLimits t
+tensor_by_within_limits name d l t named e = parts (in_range 1 (2 ^ 32 - 1) d) (in_range 1 256 l) refl refl e
   where
-    parts : (a b : Option ℕ) → in_range 1 (2 ^ 32 - 1) d ≡ a → in_range 1 256 l ≡ b → tensor_by name a b ≡ Some t → IsGood t
-    parts None b da lb s = absurd (none_some t s)
-    parts (Some x) None da lb s = absurd (none_some t s)
+    parts : (a b : Option ℕ) → in_range 1 (2 ^ 32 - 1) d ≡ a → in_range 1 256 l ≡ b → tensor_by name a b ≡ Some t → IsWithinLimits t
+    parts None b da lb s = absurd (none-some t s)
+    parts (Some x) None da lb s = absurd (none-some t s)
     parts (Some x) (Some y) da lb s =
         let is : ◌≡◌ {A = FlatTensor} (record { name = name; dim = x; latches = y }) t = cc in
         let dims = in_range_some 1 (2 ^ 32 - 1) d x da in
         let latches = in_range_some 1 256 l y lb in
-        subst IsGood is (record { name = named; low_dim = dims.0; high_dim = omega (arith, dims.1); low_latches = latches.0; high_latches = latches.1 })
+        subst IsWithinLimits is (record { name = named; low_dim = dims.0; high_dim = omega (arith, dims.1); low_latches = latches.0; high_latches = latches.1 })
 
-tensor_good : (words : List (List ℕ)) (t : FlatTensor) → tensor_of_words words ≡ Some t → IsGood t
-tensor_good (w ∷ name ∷ d ∷ a ∷ f ∷ k ∷ l ∷ []) t e = elim (is_text (codes "tensor") w && is_name name && is_text (codes "as") a && is_text (codes "flat") f && is_text (codes "latches") k)
-    as (λ b. (is_text (codes "tensor") w && is_name name && is_text (codes "as") a && is_text (codes "flat") f && is_text (codes "latches") k) ≡ b
-    → (if b then tensor_by name (in_range 1 (2 ^ 32 - 1) (number_of d)) (in_range 1 256 (number_of l)) else None) ≡ Some t → IsGood t) [
-      | true ↦ λ h s. tensor_by_good name (number_of d) (number_of l) t (second (is_text (codes "tensor") w) (is_name name) (is_text (codes "as") a) (is_text (codes "flat") f) (is_text (codes "latches") k) h) s
-      | false ↦ λ h s. absurd (none_some t s)
+tensor_within_limits : (words : List (List ℕ)) (t : FlatTensor) → tensor_of_words words ≡ Some t → IsWithinLimits t
+tensor_within_limits (w ∷ name ∷ d ∷ a ∷ f ∷ k ∷ l ∷ []) t e = elim (equals_text (codes "tensor") w && is_name name && equals_text (codes "as") a && equals_text (codes "flat") f && equals_text (codes "latches") k)
+    as (λ b. (equals_text (codes "tensor") w && is_name name && equals_text (codes "as") a && equals_text (codes "flat") f && equals_text (codes "latches") k) ≡ b
+    → (if b then tensor_by name (in_range 1 (2 ^ 32 - 1) (number_of d)) (in_range 1 256 (number_of l)) else None) ≡ Some t → IsWithinLimits t) [
+      | true ↦ λ h s. tensor_by_within_limits name (number_of d) (number_of l) t (second (equals_text (codes "tensor") w) (is_name name) (equals_text (codes "as") a) (equals_text (codes "flat") f) (equals_text (codes "latches") k) h) s
+      | false ↦ λ h s. absurd (none-some t s)
     ] refl e
   where
     second : (p q r s u : Bool) → (p && q && r && s && u) ≡ true → q ≡ true
     second p q r s u h = (both_true p q (both_true (p && q) r (both_true (p && q && r) s (both_true (p && q && r && s) u h).0).0).0).1
-tensor_good words t e = absurd (none_some t e)
+tensor_within_limits words t e = absurd (none-some t e)
 
 pub limited : {X : Type 0} (read : List (List ℕ) → Option X) (line : List ℕ) (x : X) → within_limit read line ≡ Some x → read (words_of line) ≡ Some x
 limited read line x e = elim (nat_le (length line) 4096) as (λ b. (if b then read (words_of line) else None) ≡ Some x → read (words_of line) ≡ Some x) [
   | true ↦ λ s. s
-  | false ↦ λ s. absurd (none_some x s)
+  | false ↦ λ s. absurd (none-some x s)
 ] e
 
 plan_alone_tensor : (p : Plan) (rows : List (ℕ × List ℕ)) (plan : Plan) → plan_alone p rows ≡ Ok plan → plan.tensor ≡ p.tensor
@@ -70,9 +69,9 @@ plan_with_tensor t (s ∷ rows) plan e = elim (within_limit file_of_words s.1) a
 ] e
 
 -- the tensor of a plan is within the limits
-pub plan_good : (rows : List (ℕ × List ℕ)) (plan : Plan) → plan_of rows ≡ Ok plan → IsGood plan.tensor
-plan_good [] plan e = absurd (err_ok plan 0 e)
-plan_good (r ∷ rows) plan e = elim (within_limit tensor_of_words r.1) as (λ o. within_limit tensor_of_words r.1 ≡ o → then_read (ok_or o r.0) (λ tensor. plan_with tensor rows) ≡ Ok plan → IsGood plan.tensor) [
+pub plan_within_limits : (rows : List (ℕ × List ℕ)) (plan : Plan) → plan_of rows ≡ Ok plan → IsWithinLimits plan.tensor
+plan_within_limits [] plan e = absurd (err_ok plan 0 e)
+plan_within_limits (r ∷ rows) plan e = elim (within_limit tensor_of_words r.1) as (λ o. within_limit tensor_of_words r.1 ≡ o → then_read (ok_or o r.0) (λ tensor. plan_with tensor rows) ≡ Ok plan → IsWithinLimits plan.tensor) [
   | None ↦ λ o h. absurd (err_ok plan r.0 h)
-  | Some t ↦ λ o h. subst IsGood (sym (plan_with_tensor t rows plan h)) (tensor_good (words_of r.1) t (limited tensor_of_words r.1 t o))
+  | Some t ↦ λ o h. subst IsWithinLimits (sym (plan_with_tensor t rows plan h)) (tensor_within_limits (words_of r.1) t (limited tensor_of_words r.1 t o))
 ] refl e

@@ -15,8 +15,8 @@ use Rattle.dt_model.specs.Runs.{reply_at, call_of}
 use Rattle.dt_model.specs.Report.{lines_rows, line_rows, call_rows}
 use Rattle.dt_model.proofs.Growing.{lines_rows-same, lines_rows-push, text_of-append}
 use Rattle.sessions.specs.Running.{Running}
-use Rattle.dyntensor.specs.Going.{StepsTo, IsSoFar, IsRun, MayRun}
-use Rattle.dyntensor.specs.Stops.{IsOneSession, IsQuiet}
+use Rattle.dyntensor.specs.ScriptRun.{StepsTo, IsSoFar, IsRun, MayRun}
+use Rattle.dyntensor.specs.Stops.{IsOneSession, AsksNoQuery}
 use Rattle.commit_core.proofs.Calls.{IsWithin-valid, as_many_bases}
 use Rattle.dyntensor.proofs.Validity.{valid_script}
 use Rattle.dt_model.specs.Worlds.{verdict_is_valid}
@@ -111,7 +111,7 @@ one_line_more w script i old new (Refused r) before t u one h l e run a =
 -- a line of a valid session may be run
 pub may_run : (w : World) (script : List Verdict) (n i : ℕ) (v : Verdict) → IsOneSession w script → n ≡ length w.base → i < length script → get_or script i v ≡ v → MayRun n v
 may_run w script n i (Accepted call) one bases l e = (
-  subst IsQuiet e (one.quiet i (Accepted call) l),
+  subst AsksNoQuery e (one.no_query i (Accepted call) l),
   IsWithin-valid w.decls n call (as_many_bases w one.valid ∙ sym bases) (subst (λ v. verdict_is_valid w.decls v ≡ true) e (list_all-at (verdict_is_valid w.decls) script i (Accepted call) l (valid_script w script one))),
 )
 may_run w script n i (Refused r) one bases l e = tt

@@ -1,7 +1,9 @@
 pub mod FileNames
+pub mod Rows
+pub mod Manifest
 pub mod Workload
 pub mod Lines
 pub mod Outcome
 pub mod Stops
 pub mod Endings
-pub mod Going
+pub mod ScriptRun

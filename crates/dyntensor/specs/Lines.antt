@@ -1,4 +1,4 @@
--- Lines of scripts as the program reads them, and what it makes of them.
+-- Lines of scripts as the program reads them, and what it makes of them. No public clause cites this module.
 use Rattle.std.specs.Prelude.{ℕ, ◌≡◌, ◌-◌, ◌==◌, ◌||◌, Bool, List, [], ◌∷◌, Option, Some, None, Result, Err, if◌then◌else◌, nat_lt}
 use Rattle.dt_model.specs.declared.calls.Call.TheVariants as calls
 use Rattle.dt_model.specs.declared.calls.Cell.{Cell}

@@ -7,23 +7,24 @@ use Rattle.dt_outside.specs.Faults.{Rose, Appended}
 use Rattle.dyntensor.specs.declared.plans.Cause.{Cause}
 use Rattle.dyntensor.specs.declared.plans.Cause.TheVariants.{NotBuilt, Limit}
 use Rattle.dyntensor.specs.declared.plans.Fault.{Fault}
-use Rattle.dyntensor.specs.Workload.{Work, workload, is_text, IsReached}
+use Rattle.dyntensor.specs.Rows.{equals_text}
+use Rattle.dyntensor.specs.Workload.{Work, workload, IsReached}
 
 -- the report of a run, the usage line, a fault of the workload, a file that the shelf failed to give, or want of memory
 pub data Outcome : Type 0 where
   Reported : (text : List ℕ) → Outcome
-  Misused : Outcome
+  NoCommand : Outcome
   Refused : (fault : Fault) → Outcome
   Unfetched : (file : List ℕ) → Outcome
-  Starved : Outcome
+  OutOfMemory : Outcome
 
 -- the status of an outcome
 abbrev pub status_of : Outcome → ℕ
 status_of (Reported text) = 0
-status_of Misused = 1
+status_of NoCommand = 1
 status_of (Refused fault) = 2
 status_of (Unfetched file) = 3
-status_of Starved = 5
+status_of OutOfMemory = 5
 
 -- the words of a fault's cause
 abbrev pub cause_words : Cause → List (List ℕ)
@@ -41,14 +42,14 @@ shelf_text file = text_of ((codes "shelf" ∷ file ∷ []) ∷ [])
 -- the text that is due
 abbrev pub due_text : Outcome → List ℕ
 due_text (Reported text) = text
-due_text Misused = codes "usage: dyntensor run MANIFEST | check SCHEMAS | sample N\n"
+due_text NoCommand = codes "usage: dyntensor run MANIFEST | check SCHEMAS | sample N\n"
 due_text (Refused fault) = refused_text fault
 due_text (Unfetched file) = shelf_text file
-due_text Starved = codes "no memory\n"
+due_text OutOfMemory = codes "no memory\n"
 
 -- `run` and one more word of 1 to 255 bytes
 abbrev pub manifest_of : List (List ℕ) → Option (List ℕ)
-manifest_of (run ∷ name ∷ []) = if is_text (codes "run") run && nat_le 1 (length name) && nat_le (length name) 255 then Some name else None
+manifest_of (run ∷ name ∷ []) = if equals_text (codes "run") run && nat_le 1 (length name) && nat_le (length name) 255 then Some name else None
 manifest_of words = None
 
 -- what a run sees of its shelf: the files, where they are told, the count of faults before and after, and the name that is blamed after
@@ -73,14 +74,14 @@ pub record IsUnfetched (s : Seen) (manifest file : List ℕ) : Type 0 where
 -- the cause of an outcome, where the words name a manifest
 abbrev pub HasCauseIn : Seen → List ℕ → Outcome → Type 0
 HasCauseIn s manifest (Reported text) = IsReport s manifest text
-HasCauseIn s manifest Misused = ⊥
+HasCauseIn s manifest NoCommand = ⊥
 HasCauseIn s manifest (Refused fault) = IfSome s.files (λ files. workload files manifest ≡ Err fault)
 HasCauseIn s manifest (Unfetched file) = IsUnfetched s manifest file
-HasCauseIn s manifest Starved = Unit {0}
+HasCauseIn s manifest OutOfMemory = Unit {0}
 
 -- the cause of an outcome, by the words and the shelf
 abbrev pub HasCause : Option (List ℕ) → Seen → Outcome → Type 0
-HasCause None s outcome = outcome ≡ Misused
+HasCause None s outcome = outcome ≡ NoCommand
 HasCause (Some manifest) s outcome = HasCauseIn s manifest outcome
 
 -- a part of the text, from its beginning on, was written

@@ -48,7 +48,7 @@ IsStop s manifest (Unfetched file) = IsUnfetched s manifest file
 IsStop s manifest NoMemory = Unit {0}
 
 -- a name, a dimension and latches within the limits
-pub record IsGood (t : FlatTensor) : Type 0 where
+pub record IsWithinLimits (t : FlatTensor) : Type 0 where
   pub name : is_name t.name ≡ true
   pub low_dim : 1 ≤ t.dim
   pub high_dim : t.dim < 2 ^ 32
@@ -56,12 +56,20 @@ pub record IsGood (t : FlatTensor) : Type 0 where
   pub high_latches : t.latches ≤ 256
 
 -- the line asks for no query
-abbrev pub IsQuiet : Verdict → Type 0
-IsQuiet (Accepted call) = IsNoQuery call
-IsQuiet (RefusedLine r) = Unit {0}
+abbrev pub AsksNoQuery : Verdict → Type 0
+AsksNoQuery (Accepted call) = IsNoQuery call
+AsksNoQuery (RefusedLine r) = Unit {0}
 
 -- a world of one session without queries
 pub record IsOneSession (w : World) (script : List Verdict) : Type 0 where
   pub valid : IsValid w
   pub scripts : w.scripts ≡ script ∷ []
-  pub quiet : All IsQuiet script
+  pub no_query : All AsksNoQuery script
+
+-- the script of the first session
+abbrev pub first_script : World → List Verdict
+first_script w = first_or_none w.scripts
+  where
+    first_or_none : List (List Verdict) → List Verdict
+    first_or_none [] = []
+    first_or_none (script ∷ scripts) = script

@@ -4,13 +4,14 @@
 //! real files and standard output.
 //! A clause of `top_run` sees the words as bytes, the files where the shelf tells them, what was
 //! written where the sink tells it, and both counts of faults. Read `specs/Workload.antt` first, then
-//! `specs/Outcome.antt`.
+//! `specs/Outcome.antt`; the forms of lines are in `specs/Manifest.antt`.
 //! Lines, sessions and calls are counted from 1. A file has at most 67,108,864 bytes, a line that
 //! counts 4,096, a script 65,536 lines that count. A manifest declares one flat tensor of order 1 and
 //! one session.
 //! Not here: how a call is made (`sessions`), what a real file or stream holds (`dt_outside`).
 #![tactic(auto)]
 
+mod fault_lines;
 mod file_names;
 mod manifests;
 mod outcomes;

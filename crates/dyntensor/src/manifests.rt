@@ -1,11 +1,12 @@
 ghost use Rattle.std.specs.Prelude.{◌≡◌, ◌-◌, ◌≤◌, ◌^◌, None, if◌then◌else◌, length};
 ghost use Rattle.dt_model.specs.Texts.{words_of, number_of};
 ghost use Rattle.dt_model.specs.Names.{is_name};
-ghost use Rattle.dyntensor.specs.Workload.{counted, within_limit, tensor_of_words, file_of_words, in_range, tensor_by, plan_of};
+ghost use Rattle.dyntensor.specs.Rows.{counted, within_limit};
+ghost use Rattle.dyntensor.specs.Manifest.{tensor_of_words, file_of_words, in_range, tensor_by, plan_of};
 
 use crate::file_names::FileName;
 use crate::plans::{FlatTensor, Plan};
-use crate::rows::{LINE_LIMIT, is_text, next_row};
+use crate::rows::{LINE_LIMIT, equals_text, next_row};
 use dt_model::Name;
 use dt_text::{first_word, read_index};
 
@@ -45,10 +46,10 @@ fn read_tensor_words(line: &[u8]) -> Option<FlatTensor>
     if first_word(rest).is_some() {
         return None;
     }
-    if is_text(first, "tensor")
-        && is_text(third, "as")
-        && is_text(format, "flat")
-        && is_text(fifth, "latches")
+    if equals_text(first, "tensor")
+        && equals_text(third, "as")
+        && equals_text(format, "flat")
+        && equals_text(fifth, "latches")
     {
         tensor(name, dim, latches)
     } else {
@@ -75,7 +76,7 @@ fn read_session_words(line: &[u8]) -> Option<FileName>
     if first_word(rest).is_some() {
         return None;
     }
-    if is_text(verb, "session") {
+    if equals_text(verb, "session") {
         FileName::from_bytes(file)
     } else {
         None

@@ -1,18 +1,16 @@
-ghost use Rattle.std.specs.Prelude.{⊤, ◌≡◌, ◌+◌, ◌++◌, ◌≤◌, length, map, string_bytes, None, Some, MatchOption, IfOk};
+ghost use Rattle.std.specs.Prelude.{⊤, ◌≡◌, ◌+◌, ◌++◌, ◌≤◌, length, map, string_bytes, None, Some, MatchOption};
 ghost use Rattle.dt_outside.specs.Faults.{Rose, Appended};
-ghost use Rattle.dyntensor.specs.Outcome.{manifest_of, refused_text, shelf_text, IsHandedOut};
-ghost use Rattle.dyntensor.specs.Endings.{IsEnding, IsRunEnding, status_due, text_due};
-ghost use Rattle.dyntensor.specs.Stops.{seen, IsOneSession};
-ghost use Rattle.dyntensor.specs.Workload.{first_script};
+ghost use Rattle.dyntensor.specs.Outcome.{manifest_of, shelf_text, status_of, due_text, HasCause, IsHandedOut};
+ghost use Rattle.dyntensor.specs.Endings.{IsRunEnding, outcome_of};
+ghost use Rattle.dyntensor.specs.Stops.{seen, IsOneSession, first_script};
 
+use crate::fault_lines::FaultLine;
 use crate::file_names::{FILE_NAME_LIMIT, FileName};
-use crate::plans::{Cause, Fault};
 use crate::runs::run_report;
 use crate::workloads::{Stop, read_world};
 use arrayvec::ArrayVec;
 use dt_model::{NoMemory, World};
 use dt_outside::{Shelf, Sink, write_all};
-use dt_text::{append, write_number};
 use std::alloc::Global;
 
 /// The most bytes of the line `shelf FILE`: 7 more than a file's name has.
@@ -29,8 +27,8 @@ pub enum Ending {
     Report(Vec<u8>),
     /// The usage line.
     Usage,
-    /// The line of a fault.
-    Refused(Vec<u8>),
+    /// The line of a fault of the workload.
+    Refused(FaultLine),
     /// The file that the shelf failed to give.
     Unfetched(FileName),
     /// The line `no memory`.
@@ -52,22 +50,6 @@ fn manifest_name(words: &[String]) -> Option<&str>
         }
         _ => None,
     }
-}
-
-/// The line `refused FILE LINE CAUSE`.
-fn write_fault(alloc: Global, fault: &Fault) -> Result<Vec<u8>, NoMemory>
-    ensures value { IfOk result (λ text. text.items ≡ refused_text fault.now) }
-{
-    let mut text = Vec::new(alloc);
-    append(&mut text, b"refused ")?;
-    append(&mut text, fault.file.bytes())?;
-    append(&mut text, b" ")?;
-    write_number(fault.line, &mut text)?;
-    match fault.cause {
-        Cause::NotBuilt => append(&mut text, b" not built\n")?,
-        Cause::Limit => append(&mut text, b" limit\n")?,
-    }
-    Ok(text)
 }
 
 /// Appends bytes, for which there is room.
@@ -109,15 +91,15 @@ fn report_of(alloc: Global, world: &World) -> Ending
 /// Reads the workload, runs it, and says how that ends.
 pub fn ending_of<S: Shelf>(alloc: Global, words: &[String], shelf: &mut S) -> Ending
     ensures files { S.files shelf.new ≡ S.files shelf.old }
-    ensures cause { IsEnding (manifest_of (map string_bytes words.now)) (seen (S.files shelf.old) (S.faults shelf.old) (S.faults shelf.new) (S.blamed shelf.new)) result }
+    ensures cause { HasCause (manifest_of (map string_bytes words.now)) (seen (S.files shelf.old) (S.faults shelf.old) (S.faults shelf.new) (S.blamed shelf.new)) (outcome_of result) }
 {
     let Some(name) = manifest_name(words) else {
         return Ending::Usage;
     };
     match read_world(alloc, shelf, name) {
         Ok(world) => report_of(alloc, &world),
-        Err(Stop::Refused(fault)) => match write_fault(alloc, &fault) {
-            Ok(text) => Ending::Refused(text),
+        Err(Stop::Refused(fault)) => match FaultLine::new(alloc, fault) {
+            Ok(line) => Ending::Refused(line),
             Err(NoMemory) => Ending::NoMemory,
         },
         Err(Stop::Unfetched(file)) => Ending::Unfetched(file),
@@ -137,12 +119,12 @@ fn hand_out<K: Sink>(sink: &mut K, text: &[u8], status: u8) -> u8
 
 /// Writes the text due, and answers the status.
 pub fn print<K: Sink>(sink: &mut K, ending: &Ending) -> u8
-    ensures out { IsHandedOut (status_due ending.now) (text_due ending.now) result (K.written sink.old) (K.written sink.new) (K.faults sink.old) (K.faults sink.new) }
+    ensures out { IsHandedOut (status_of (outcome_of ending.now)) (due_text (outcome_of ending.now)) result (K.written sink.old) (K.written sink.new) (K.faults sink.old) (K.faults sink.new) }
 {
     match ending {
         Ending::Report(text) => hand_out(sink, text.as_slice(), 0),
         Ending::Usage => hand_out(sink, USAGE, 1),
-        Ending::Refused(text) => hand_out(sink, text.as_slice(), 2),
+        Ending::Refused(line) => hand_out(sink, line.bytes(), 2),
         Ending::Unfetched(file) => hand_out(sink, shelf_line(file).as_slice(), 3),
         Ending::NoMemory => hand_out(sink, NO_MEMORY, 5),
     }

@@ -1,6 +1,6 @@
 ghost use Rattle.std.specs.Prelude.{⊤, ◌≡◌, ◌+◌, ◌^◌, ◌==◌, ◌<◌, ◌≤◌, ◌∷◌, [], length, slice_index, MatchOption};
 ghost use Rattle.dt_model.specs.Texts.{words_of};
-ghost use Rattle.dyntensor.specs.Workload.{is_text, is_useful, counted_from};
+ghost use Rattle.dyntensor.specs.Rows.{equals_text, is_useful, counted_from};
 
 use dt_text::{first_line, first_word};
 
@@ -19,8 +19,8 @@ pub struct Row<'a> {
 }
 
 /// Whether a word is this text.
-pub fn is_text(word: &[u8], text: &str) -> bool
-    ensures value { result ≡ is_text text.now word.now }
+pub fn equals_text(word: &[u8], text: &str) -> bool
+    ensures value { result ≡ equals_text text.now word.now }
 {
     word == text.as_bytes()
 }

@@ -4,7 +4,7 @@ ghost use Rattle.dt_model.specs.Runs.{reply_at};
 ghost use Rattle.dt_model.specs.Report.{lines_rows, PrintsRun};
 ghost use Rattle.commit_core.specs.Valid.{IsWithin};
 ghost use Rattle.sessions.specs.Running.{IsNoQuery, IsPlain};
-ghost use Rattle.dyntensor.specs.Going.{StepsTo, IsSoFar, MayRun, IsRun};
+ghost use Rattle.dyntensor.specs.ScriptRun.{StepsTo, IsSoFar, MayRun, IsRun};
 ghost use Rattle.dyntensor.specs.Stops.{IsOneSession};
 
 use crate::report_rows::{write_history, write_refusal, write_reply};

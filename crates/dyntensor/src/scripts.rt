@@ -2,11 +2,12 @@ ghost use Rattle.std.specs.Prelude.{◌≡◌, ℕ, ◌≤◌, ◌∷◌, ◌++�
 ghost use Rattle.std.specs.Option.{option_map};
 ghost use Rattle.dt_model.specs.Texts.{words_of, number_of};
 ghost use Rattle.dt_model.specs.Verdicts.{verdict};
-ghost use Rattle.dyntensor.specs.Workload.{counted, written_of, decls_of, adds_of, verdict_on, script_of};
+ghost use Rattle.dyntensor.specs.Rows.{counted};
+ghost use Rattle.dyntensor.specs.Workload.{written_of, decls_of, adds_of, verdict_on, script_of};
 ghost use Rattle.dyntensor.specs.Lines.{place_in, line_by, cell_at, out_of_range, verdict_on_line, IsFaultOf};
 
 use crate::plans::FlatTensor;
-use crate::rows::{LINE_LIMIT, is_text, next_row};
+use crate::rows::{LINE_LIMIT, equals_text, next_row};
 use dt_model::{Call, Cell, Coords, NoMemory, Refusal, Update, Updates, Verdict, Verdicts};
 use dt_text::{IndexFault, first_word, read_index, read_whole};
 use std::alloc::Global;
@@ -62,9 +63,9 @@ fn read_place(word: &[u8], dim: u32) -> Option<Place>
 fn read_verb(verb: &[u8]) -> Option<bool>
     ensures value { result ≡ adds_of verb.now }
 {
-    if is_text(verb, "set") {
+    if equals_text(verb, "set") {
         Some(false)
-    } else if is_text(verb, "add") {
+    } else if equals_text(verb, "add") {
         Some(true)
     } else {
         None
@@ -102,7 +103,7 @@ fn read_words(tensor: &FlatTensor, line: &[u8]) -> Option<Line>
 fn read_get(tensor: &FlatTensor, verb: &[u8], name: &[u8], coordinate: &[u8]) -> Option<Line>
     ensures value { option_map (verdict_on_line tensor.now) result ≡ option_map (verdict (decls_of tensor.now)) (written_of tensor.now (verb.now ∷ name.now ∷ coordinate.now ∷ [])) }
 {
-    if name == tensor.name.bytes() && is_text(verb, "get") {
+    if name == tensor.name.bytes() && equals_text(verb, "get") {
         let at = read_place(coordinate, tensor.dim)?;
         Some(Line::Get { at })
     } else {

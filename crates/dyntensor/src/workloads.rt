@@ -1,6 +1,7 @@
 ghost use Rattle.std.specs.Prelude.{◌≡◌, ◌≤◌, ◌∷◌, [], length, IfOk, IfErr, OnOk, IfSome, Ok, codes};
-ghost use Rattle.dyntensor.specs.Workload.{read_in, plan_of, script_of, workload, world_of, flat, decl_of, first_script};
-ghost use Rattle.dyntensor.specs.Stops.{seen, IsFetchStop, IsReadStop, IsStop, IsGood, IsOneSession};
+ghost use Rattle.dyntensor.specs.Manifest.{plan_of};
+ghost use Rattle.dyntensor.specs.Workload.{read_in, script_of, workload, world_of, flat, decl_of};
+ghost use Rattle.dyntensor.specs.Stops.{first_script, seen, IsFetchStop, IsReadStop, IsStop, IsWithinLimits, IsOneSession};
 
 use crate::file_names::FileName;
 use crate::manifests::read_manifest;
@@ -64,7 +65,7 @@ fn read_plan<S: Shelf>(alloc: Global, shelf: &mut S, name: &str) -> Result<Plan,
     requires named { (1 ≤ length name.now) × (length name.now ≤ 255) }
     ensures files { S.files shelf.new ≡ S.files shelf.old }
     ensures plan { IfOk result (λ plan. IfSome (S.files shelf.old) (λ files. read_in files name.now plan_of ≡ Ok plan)) }
-    ensures good { IfOk result (λ plan. IsGood plan.tensor) }
+    ensures limits { IfOk result (λ plan. IsWithinLimits plan.tensor) }
     ensures quiet { OnOk result (S.faults shelf.new ≡ S.faults shelf.old) }
     ensures stop { IfErr result (IsReadStop (seen (S.files shelf.old) (S.faults shelf.old) (S.faults shelf.new) (S.blamed shelf.new)) name.now (λ files. read_in files name.now plan_of)) }
 {
@@ -77,7 +78,7 @@ fn read_plan<S: Shelf>(alloc: Global, shelf: &mut S, name: &str) -> Result<Plan,
 
 /// Reads the verdicts of a plan's script.
 fn read_verdicts<S: Shelf>(alloc: Global, shelf: &mut S, plan: &Plan) -> Result<Verdicts, Stop>
-    requires good { IsGood plan.now.tensor }
+    requires limits { IsWithinLimits plan.now.tensor }
     ensures files { S.files shelf.new ≡ S.files shelf.old }
     ensures verdicts { IfOk result (λ verdicts. IfSome (S.files shelf.old) (λ files. read_in files plan.now.file (script_of plan.now.tensor) ≡ Ok verdicts)) }
     ensures session { IfOk result (λ verdicts. IsOneSession (world_of plan.now.tensor verdicts) verdicts) }

@@ -1,5 +1,5 @@
 use Rattle.std.proofs.Common.{◌≡◌, ◌+◌, ◌≤◌, length}
-use Rattle.dyntensor.specs.Workload.{counted_from}
+use Rattle.dyntensor.specs.Rows.{counted_from}
 use Rattle.dyntensor.proofs.rows.next_row.Given as goal
 
 abbrev pub invariant-loop-line : goal.invariant-loop-line

@@ -1,5 +1,6 @@
 use Rattle.std.proofs.Common.{◌≡◌, Some, ap, ◌∙◌, arith, length, length-append, [], ◌∷◌, ◌+◌, ◌++◌}
-use Rattle.dyntensor.specs.Workload.{counted, counted_from, verdict_on}
+use Rattle.dyntensor.specs.Rows.{counted, counted_from}
+use Rattle.dyntensor.specs.Workload.{verdict_on}
 use Rattle.dyntensor.specs.Lines.{verdict_on_line}
 use Rattle.dyntensor.proofs.LineLemmas.{script_fault, verdicts_more, fault_more}
 use Rattle.dyntensor.proofs.scripts.read_script.Goals as goal

@@ -1,7 +1,8 @@
 use Rattle.std.proofs.Common.{◌≡◌, ◌+◌, ◌≤◌, ◌++◌, length}
 use Rattle.std.specs.Prelude.{find, is_none}
 use Rattle.std.specs.List.{enumerate_from, filter_map}
-use Rattle.dyntensor.specs.Workload.{counted, counted_from, verdict_on}
+use Rattle.dyntensor.specs.Rows.{counted, counted_from}
+use Rattle.dyntensor.specs.Workload.{verdict_on}
 use Rattle.dyntensor.proofs.scripts.read_script.Given as goal
 
 abbrev pub invariant-loop-row : goal.invariant-loop-row

@@ -1,5 +1,5 @@
--- A run of one session's script that has come to a line.
-use Rattle.std.specs.Prelude.{ℕ, ◌≡◌, ◌+◌, ◌≤◌, ◌<◌, ◌++◌, ◌∷◌, [], List, Option, Some, None, true, MatchOption, AllPairs}
+-- A run of one session's script that has come to a line. No public clause cites this module.
+use Rattle.std.specs.Prelude.{ℕ, ◌≡◌, ◌+◌, ◌≤◌, ◌<◌, ◌++◌, ◌∷◌, [], List, Option, Some, None, true, MatchOption, All, AllPairs}
 use Rattle.dt_model.specs.declared.calls.Call.{Call}
 use Rattle.dt_model.specs.declared.calls.Call.TheVariants.{Get}
 use Rattle.dt_model.specs.declared.calls.Cell.{Cell}
@@ -37,15 +37,10 @@ pub record IsEntryOf (w : World) (n : ℕ) (e : Entry) : Type 0 where
   pub high : e.turn.number < n
   pub called : call_of w 1 e.turn.number ≡ Some e.call
 
--- each entry has the property
-abbrev pub Each : (Entry → Type 0) → List Entry → Type 0
-Each P [] = Unit {0}
-Each P (e ∷ es) = P e × Each P es
-
 -- i lines are done
 pub record IsSoFar (w : World) (i : ℕ) (run : Running) : Type 0 where
   pub now : IsRunOf w run
-  pub entries : Each (IsEntryOf w (i + 1)) run.entries
+  pub entries : All (IsEntryOf w (i + 1)) run.entries
   pub rising : AllPairs Rises run.entries
   pub last : run.last ≤ i
   pub gets : (k : ℕ) (cell : Cell) → k ≤ i → call_of w 1 k ≡ Some (Get cell) → has_turn run.entries 1 k ≡ true
