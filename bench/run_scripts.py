@@ -3,8 +3,10 @@
 
 Makes scripts of 16,384 and of 65,536 lines on one flat tensor, half `set` and half `get`, with ascending, descending
 and random coordinates, runs the program on each in turn and the whole turn three times, and prints of each script the
-median time and the peak memory, and the ratios of the longer one to the shorter. The system tells no child's peak as
-less than what this script holds when it starts it, so it holds little, and prints that floor too.
+median time and the peak memory, and the ratios of the longer one to the shorter. In a turn the shorter script is run
+as often in a row as makes that about as long as one run of the longer one, and its time is that of all these runs
+divided by their number. The system tells no child's peak as less than what this script holds when it starts it, so it
+holds little, and prints that floor too.
 """
 
 import filecmp
@@ -80,31 +82,48 @@ def timed_run(program, folder):
     return seconds, peak
 
 
+def timed_turn(program, folder, count):
+    """The seconds of a run and the peak memory, over so many runs in a row."""
+    runs = [timed_run(program, folder) for _ in range(count)]
+    return sum(seconds for seconds, _ in runs) / count, max(peak for _, peak in runs)
+
+
+def runs_in_a_row(program, folders):
+    """How often each script is run in a turn, by its order and size: one uncounted run of each tells it."""
+    counts = {}
+    for order in ORDERS:
+        short, long = (timed_run(program, folders[order, size])[0] for size in SIZES)
+        counts[order, SIZES[0]] = max(1, round(long / short))
+        counts[order, SIZES[1]] = 1
+    return counts
+
+
 def measure(program):
-    """The runs of each script by its order and size, and the peak memory of a run of nothing.
+    """The turns of each script by its order and size, its runs in a row, and the peak memory of a run of nothing.
 
     The turns are interleaved, so that a ratio is of one stretch of time.
     """
-    runs = {(order, size): [] for order in ORDERS for size in SIZES}
+    turns = {(order, size): [] for order in ORDERS for size in SIZES}
     with tempfile.TemporaryDirectory() as room:
-        folders = {it: write_files(room, *it) for it in runs}
+        folders = {it: write_files(room, *it) for it in turns}
+        counts = runs_in_a_row(program, folders)
         for _ in range(TURNS):
-            for it in runs:
-                runs[it].append(timed_run(program, folders[it]))
+            for it in turns:
+                turns[it].append(timed_turn(program, folders[it], counts[it]))
         _, _, floor = run_once(["true"], Path(room))
-    return runs, floor
+    return turns, counts, floor
 
 
-def print_runs(runs):
+def print_turns(turns, counts):
     """Prints a line for each order, and answers how much the time grew in ascending order."""
-    print(" " * 12 + "".join(f"{size:>12,} lines{'':>8}" for size in SIZES) + "time grew    memory grew")
+    print(" " * 12 + "".join(f"{size:>12,} lines{'':>8}" for size in SIZES) + "time grew    memory grew    short runs in a row")
     growth = {}
     for order in ORDERS:
-        times = [sorted(seconds for seconds, _ in runs[order, size])[TURNS // 2] for size in SIZES]
-        peaks = [max(peak for _, peak in runs[order, size]) / KIB_IN_MIB for size in SIZES]
+        times = [sorted(seconds for seconds, _ in turns[order, size])[TURNS // 2] for size in SIZES]
+        peaks = [max(peak for _, peak in turns[order, size]) / KIB_IN_MIB for size in SIZES]
         growth[order] = times[1] / times[0]
         columns = "".join(f"{seconds:>10.3f} s {peak:>8.1f} MiB " for seconds, peak in zip(times, peaks))
-        print(f"{order:<12}{columns}  x {growth[order]:>7.2f}    x {peaks[1] / peaks[0]:>7.2f}")
+        print(f"{order:<12}{columns}  x {growth[order]:>7.2f}    x {peaks[1] / peaks[0]:>7.2f}    {counts[order, SIZES[0]]:>10}")
     return growth["ascending"]
 
 
@@ -112,11 +131,13 @@ def main(words):
     program = Path(words[0] if words else TOP / "crates/dyntensor/out/dyntensor").resolve()
     if not program.is_file():
         sys.exit(f"{program} isn't there: rt run in crates/dyntensor builds it")
-    runs, floor = measure(str(program))
-    grew = print_runs(runs)
+    load, processors = os.getloadavg()[0], os.cpu_count()
+    turns, counts, floor = measure(str(program))
+    grew = print_turns(turns, counts)
     is_slow = grew > MOST_GROWTH
     print(f"memory is told as {floor / KIB_IN_MIB:.1f} MiB for a program that does nothing")
     print(f"ascending order took {grew:.2f} times as long for {SIZES[1] // SIZES[0]} times the lines: {'MORE THAN' if is_slow else 'at most'} {MOST_GROWTH:.0f} times")
+    print(f"load when it began: {load:.1f} on {processors} processors{', a busy machine: the ratios are noisy' if load > 1 else ''}")
     return 1 if is_slow else 0
 
 
