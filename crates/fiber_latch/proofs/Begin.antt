@@ -14,7 +14,7 @@ use Rattle.fiber_latch.specs.declared.view.Terms.{Terms}
 use Rattle.fiber_latch.specs.declared.view.View.{View}
 use Rattle.fiber_latch.specs.declared.view.TableName.{TableName}
 use Rattle.fiber_latch.specs.declared.rule.Kept as kept
-use Rattle.fiber_latch.specs.declared.rule.Lain.{Lain}
+use Rattle.fiber_latch.specs.declared.rule.SlotValue.{SlotValue}
 use Rattle.fiber_latch.specs.Latch.{In, Ruled, Good, first_view, half, mark_if, keep_at, keep_if, kept_to, hand_to, hold, test, below, opened_to, holding, named_view, Opening, CanGive, behind}
 use Rattle.dt_model.specs.Tensors.{latch_count}
 use Rattle.std.proofs.Common.{map, replicate, ◌==◌, eq-eqb, ne_eqb}
@@ -95,14 +95,14 @@ next_is : (l : ℕ) → suc l ≡ l + 1
 next_is l = omega arith
 
 -- one slot more is taken out
-pub took_out : {C : Type 0} (v0 : View) (l e : ℕ) (m m' : Me (Option (Lain C)) View) → m ≡ (holding v0 (half l e), hand_to l) → m' ≡ (record m.0 { held = keep_at l m.0.held }, (l, None) ∷ m.1)
+pub took_out : {C : Type 0} (v0 : View) (l e : ℕ) (m m' : Me (Option (SlotValue C)) View) → m ≡ (holding v0 (half l e), hand_to l) → m' ≡ (record m.0 { held = keep_at l m.0.held }, (l, None) ∷ m.1)
     → m' ≡ (holding v0 (half (l + 1) e), hand_to (l + 1))
 took_out {C} v0 l e m m' is then =
-    then ∙ ap (λ (n : Me (Option (Lain C)) View). (record n.0 { held = keep_at l n.0.held }, (l, None) ∷ n.1)) is
+    then ∙ ap (λ (n : Me (Option (SlotValue C)) View). (record n.0 { held = keep_at l n.0.held }, (l, None) ∷ n.1)) is
     ∙ (λ i. (holding v0 (half_step l e i), hand_to (next_is l i)))
 
-pub can_give_at : {C : Type 0} (good : Terms → List Entry → ℕ → kept.Kept C → Type 0) (v0 : View) (terms : Terms) (m n : ℕ) (me : Me (Option (Lain C)) View) (y : kept.Kept C) → Opening v0 terms → me ≡ (holding v0 (kept_to m), hand_to m) → m ≡ suc n → good v0.terms v0.seen n y → CanGive good me n y
-can_give_at {C} good v0 terms m n me y o is e fits = subst (λ (x : Me (Option (Lain C)) View). CanGive good x n y) (sym (is ∙ (λ i. (holding v0 (kept_to (e i)), hand_to (e i))))) record {
+pub can_give_at : {C : Type 0} (good : Terms → List Entry → ℕ → kept.Kept C → Type 0) (v0 : View) (terms : Terms) (m n : ℕ) (me : Me (Option (SlotValue C)) View) (y : kept.Kept C) → Opening v0 terms → me ≡ (holding v0 (kept_to m), hand_to m) → m ≡ suc n → good v0.terms v0.seen n y → CanGive good me n y
+can_give_at {C} good v0 terms m n me y o is e fits = subst (λ (x : Me (Option (SlotValue C)) View). CanGive good x n y) (sym (is ∙ (λ i. (holding v0 (kept_to (e i)), hand_to (e i))))) record {
   session = o.session;
   top = refl;
   hand = refl;
@@ -111,18 +111,18 @@ can_give_at {C} good v0 terms m n me y o is e fits = subst (λ (x : Me (Option (
   fits = fits;
 }
 
-pub gave_back : {C : Type 0} (v0 : View) (m n : ℕ) (me me' : Me (Option (Lain C)) View) → me ≡ (holding v0 (kept_to m), hand_to m) → m ≡ suc n → me' ≡ (record me.0 { held = behind me.0.held }, rest me.1) → me' ≡ (holding v0 (kept_to n), hand_to n)
-gave_back {C} v0 m n me me' is e then = then ∙ ap (λ (x : Me (Option (Lain C)) View). (record x.0 { held = behind x.0.held }, rest x.1)) (is ∙ (λ i. (holding v0 (kept_to (e i)), hand_to (e i))))
+pub gave_back : {C : Type 0} (v0 : View) (m n : ℕ) (me me' : Me (Option (SlotValue C)) View) → me ≡ (holding v0 (kept_to m), hand_to m) → m ≡ suc n → me' ≡ (record me.0 { held = behind me.0.held }, rest me.1) → me' ≡ (holding v0 (kept_to n), hand_to n)
+gave_back {C} v0 m n me me' is e then = then ∙ ap (λ (x : Me (Option (SlotValue C)) View). (record x.0 { held = behind x.0.held }, rest x.1)) (is ∙ (λ i. (holding v0 (kept_to (e i)), hand_to (e i))))
 
 -- the first seat, as the slots are taken out and given back
 pub opening_first : (terms : Terms) (z : TableName) → Opening (named_view z (first_view terms)) terms
 opening_first terms z = record { session = tt; idle = refl; known = refl; ends = refl }
 
-pub none_out : {C : Type 0} (terms : Terms) (z : TableName) (me : Me (Option (Lain C)) View) → me ≡ (named_view z (first_view terms), []) → me ≡ (holding me.0 (half 0 terms.end), [])
-none_out {C} terms z me is = subst (λ (m : Me (Option (Lain C)) View). m ≡ (holding m.0 (half 0 terms.end), [])) (sym is) (λ i. (holding (named_view z (first_view terms)) (half_none terms.end i), []))
+pub none_out : {C : Type 0} (terms : Terms) (z : TableName) (me : Me (Option (SlotValue C)) View) → me ≡ (named_view z (first_view terms), []) → me ≡ (holding me.0 (half 0 terms.end), [])
+none_out {C} terms z me is = subst (λ (m : Me (Option (SlotValue C)) View). m ≡ (holding m.0 (half 0 terms.end), [])) (sym is) (λ i. (holding (named_view z (first_view terms)) (half_none terms.end i), []))
 
-pub opening_at : {C : Type 0} (terms : Terms) (z : TableName) (hs : List Hold) (c : List (ℕ × Option (Lain C))) (me : Me (Option (Lain C)) View) → me ≡ (holding (named_view z (first_view terms)) hs, c) → Opening me.0 terms
-opening_at {C} terms z hs c me is = subst (λ (m : Me (Option (Lain C)) View). Opening m.0 terms) (sym is) record { session = tt; idle = refl; known = refl; ends = refl }
+pub opening_at : {C : Type 0} (terms : Terms) (z : TableName) (hs : List Hold) (c : List (ℕ × Option (SlotValue C))) (me : Me (Option (SlotValue C)) View) → me ≡ (holding (named_view z (first_view terms)) hs, c) → Opening me.0 terms
+opening_at {C} terms z hs c me is = subst (λ (m : Me (Option (SlotValue C)) View). Opening m.0 terms) (sym is) record { session = tt; idle = refl; known = refl; ends = refl }
 
-pub all_out : {C : Type 0} (v0 : View) (end : ℕ) (me : Me (Option (Lain C)) View) → me ≡ (holding v0 (half (end + 1) end), hand_to (end + 1)) → me ≡ (holding me.0 (kept_to (end + 1)), hand_to (end + 1))
-all_out {C} v0 end me is = subst (λ (m : Me (Option (Lain C)) View). m ≡ (holding m.0 (kept_to (end + 1)), hand_to (end + 1))) (sym is) (λ i. (holding v0 ((half_all end end (omega arith) ∙ ap kept_to (next_is end)) i), hand_to (end + 1)))
+pub all_out : {C : Type 0} (v0 : View) (end : ℕ) (me : Me (Option (SlotValue C)) View) → me ≡ (holding v0 (half (end + 1) end), hand_to (end + 1)) → me ≡ (holding me.0 (kept_to (end + 1)), hand_to (end + 1))
+all_out {C} v0 end me is = subst (λ (m : Me (Option (SlotValue C)) View). m ≡ (holding m.0 (kept_to (end + 1)), hand_to (end + 1))) (sym is) (λ i. (holding v0 ((half_all end end (omega arith) ∙ ap kept_to (next_is end)) i), hand_to (end + 1)))

@@ -1,5 +1,6 @@
 -- An entry is added to the history.
 use Rattle.std.proofs.Common.{◌≡◌, ◌≢◌, ℕ, ◌+◌, ◌<◌, ◌≤◌, List, [], ◌∷◌, ◌++◌, length, get_or, set, sym, refl, ap, ◌∙◌, subst, ⊎_elim, inl, arith, Option, All, length-set, get_or-set_other, get_or-set_same}
+use Rattle.std.proofs.lemmas.List.{append-nil, append_assoc}
 use mathlib.Core.Option.{none}
 use Rattle.atomic_table.specs.Table.{State, step, keeps, Allows}
 use Rattle.dt_model.specs.declared.calls.Entry.{Entry}
@@ -9,14 +10,14 @@ use Rattle.fiber_latch.specs.declared.view.Role.TheVariants.{Spent, Pass, Sessio
 use Rattle.fiber_latch.specs.declared.view.Terms.{Terms}
 use Rattle.fiber_latch.specs.declared.view.View.{View}
 use Rattle.fiber_latch.specs.declared.rule.Kept as kept
-use Rattle.fiber_latch.specs.declared.rule.Lain.{Lain}
-use Rattle.fiber_latch.specs.Latch.{In, Touches, OwnsAs, IsSession, Live, Marks, Keeps, Knows, Keeping, Knowing, Foreign, ViewOk, Lawful, CanCommit, Ruled, Commits}
-use Rattle.fiber_latch.proofs.Running.{run_commits}
+use Rattle.fiber_latch.specs.declared.rule.SlotValue.{SlotValue}
+use Rattle.fiber_latch.specs.Latch.{In, Touches, OwnsAs, IsSession, Live, Marks, Keeps, Knows, Keeping, Knowing, Foreign, ViewOk, Lawful, CanCommit, Ruled, machine_at, Commits, MadeCommit}
+use Rattle.fiber_latch.proofs.Running.{can_commit, run_commits}
 use Rattle.fiber_latch.proofs.Frame.{latch_stays, session_lives, owner_is_session}
 use Rattle.std.proofs.Common.{◌%◌, ◌^◌}
 use Rattle.fiber_latch.proofs.Take.{no_olds}
 use Rattle.fiber_latch.proofs.Steps.{each_stays, alone_stays, owned_stays}
-use Rattle.fiber_latch.proofs.Prefix.{none_in, in_append, nothing_behind, append_more}
+use Rattle.fiber_latch.proofs.Prefix.{none_in, in_append}
 use Rattle.fiber_latch.proofs.Keepers.{marks_listed, marks_there, keeps_known, pass_keeps}
 use Rattle.std.proofs.Common.{length-append}
 
@@ -24,7 +25,7 @@ once : (x n : ℕ) → n ≡ x + 1 → x < 18446744073709551615 → (x + 1) % 2 
 once x n e h = omega arith
 
 module _ {C : Type 0} (good : List Entry → ℕ → kept.Kept C → Type 0) (terms : Terms) where
-  module _ (slots id : ℕ) (v : View) (c : List (ℕ × Option (Lain C))) (e : Entry) (can : CanCommit terms v e) where
+  module _ (slots id : ℕ) (v : View) (c : List (ℕ × Option (SlotValue C))) (e : Entry) (can : CanCommit terms v e) where
     owns : OwnsAs v.role e.turn.session
     owns = can.owns
 
@@ -35,7 +36,7 @@ module _ {C : Type 0} (good : List Entry → ℕ → kept.Kept C → Type 0) (te
     touched l t = let h = can.held l t in marks_there Keeping v.role v.held l session (h.0, h.1, h.2, subst Keeping (sym h.4) tt)
 
     -- a latch that the seat keeps is known to no other
-    apart : (st : State (Option (Lain C)) View) (r : Ruled terms good st) → ViewOk terms r.history r.owner r.keeper st.words r.name id v → (j l : ℕ) (u : View) → j ≢ id
+    apart : (st : State (Option (SlotValue C)) View) (r : Ruled terms good st) → ViewOk terms r.history r.owner r.keeper st.words r.name id v → (j l : ℕ) (u : View) → j ≢ id
         → ViewOk terms r.history r.owner r.keeper st.words r.name j u → Live u.role → Keeps v l → Knows u l → ⊥
     apart st r ok j l u n u_ok live keep know = cases u.role refl
       where
@@ -61,11 +62,15 @@ module _ {C : Type 0} (good : List Entry → ℕ → kept.Kept C → Type 0) (te
         let H : List Entry = r.history in
         let H' : List Entry = H ++ e ∷ [] in
         let nothing : ok.sees.0 ≡ [] = none_in ok.sees.0 (λ d q. (ok.sees.2 d q).latch terms.end (keeps_known v.role v.held terms.end (touched terms.end (inl refl))) (inl refl)) in
-        let all : H ≡ v.seen = ok.sees.1 ∙ (ap (λ (z : List Entry). v.seen ++ z) nothing ∙ sym (nothing_behind v.seen)) in
+        let all : H ≡ v.seen = ok.sees.1 ∙ (ap (λ (z : List Entry). v.seen ++ z) nothing ∙ append-nil v.seen) in
         let w : View = record v { seen = v.seen ++ e ∷ [] } in
         let words' : List ℕ = set st.words i n' in
         let at_latch : (l : ℕ) → l ≤ terms.end → get_or words' l 0 ≡ get_or st.words l 0 = λ l b. get_or-set_other st.words i l n' 0 (λ (q : l ≡ i). omega arith) in
-        let counted : n' ≡ length H' = let x : ℕ = get_or st.words i 0 in let a : x ≡ length H = r.clock in let b : length H ≡ length v.seen = ap length all in let room = can.room in let d : length H' ≡ length H + 1 = length-append H (e ∷ []) in once x (length H') (omega arith) (omega arith) in (
+        let counted : n' ≡ length H' = let x : ℕ = get_or st.words i 0 in let a : x ≡ length H = r.clock in let b : length H ≡ length v.seen = ap length all in let room = can.room in let d : length H' ≡ length H + 1 = length-append H (e ∷ []) in once x (length H') (omega arith) (omega arith) in
+        let may = can_commit terms st.words H r.run r.journal e (ok.within e.turn.session owns).0 can.valid
+        (λ l t. let h = can.held l t in let x = ok.holds h.0 h.1 in
+        subst (λ (p : ℕ × ℕ). (p.0 ≤ terms.end) × (get_or st.words p.0 0 ≡ p.1)) (λ i. (h.2 i, h.3 i)) (x.0, x.3))
+        (subst (All (λ f. f.turn.session ≡ e.turn.session → f.turn.number < e.turn.number)) (sym all) can.above) in (
           w,
           keeps,
           tt,
@@ -79,15 +84,12 @@ module _ {C : Type 0} (good : List Entry → ℕ → kept.Kept C → Type 0) (te
             deep = r.deep;
             clock = get_or-set_same st.words i n' 0 (let x = r.wide in omega arith) ∙ counted;
             law = subst (λ (z : List Entry). Lawful terms (z ++ e ∷ [])) (sym all) (can.law (subst (Lawful terms) all r.law));
-            run = run_commits terms st.words H r.run r.journal e n' (ok.within e.turn.session owns).0 can.valid
-                (λ l t. let h = can.held l t in let x = ok.holds h.0 h.1 in
-                subst (λ (p : ℕ × ℕ). (p.0 ≤ terms.end) × (get_or st.words p.0 0 ≡ p.1)) (λ i. (h.2 i, h.3 i)) (x.0, x.3))
-                (subst (All (λ f. f.turn.session ≡ e.turn.session → f.turn.number < e.turn.number)) (sym all) can.above);
+            run = run_commits terms st.words H r.run r.journal e n' may;
             each_view = each_stays (λ (j : ℕ) (u : View). Live u.role → ViewOk terms H' r.owner r.keeper words' r.name j u) st.views id w
                 (λ _. record {
                   named = ok.named;
                   ends = ok.ends;
-                  sees = ([], ap (λ (z : List Entry). z ++ e ∷ []) all ∙ nothing_behind (v.seen ++ e ∷ []), λ d q. absurd q);
+                  sees = ([], ap (λ (z : List Entry). z ++ e ∷ []) all ∙ sym (append-nil (v.seen ++ e ∷ [])), λ d q. absurd q);
                   mine = ok.mine;
                   within = ok.within;
                   keeps = ok.keeps;
@@ -100,7 +102,7 @@ module _ {C : Type 0} (good : List Entry → ℕ → kept.Kept C → Type 0) (te
                   ends = u_ok.ends;
                   sees = (
                     u_ok.sees.0 ++ e ∷ [],
-                    ap (λ (z : List Entry). z ++ e ∷ []) u_ok.sees.1 ∙ append_more u.seen u_ok.sees.0 (e ∷ []),
+                    ap (λ (z : List Entry). z ++ e ∷ []) u_ok.sees.1 ∙ append_assoc u.seen u_ok.sees.0 (e ∷ []),
                     λ d p. ⊎_elim (λ (a : In d u_ok.sees.0). u_ok.sees.2 d a)
                         (λ (a : In d (e ∷ [])). ⊎_elim (λ (b : d ≡ e). subst (Foreign terms u) (sym b) record {
                           session = λ o. m (sym (u_ok.mine e.turn.session o) ∙ ok.mine e.turn.session owns);
@@ -119,5 +121,5 @@ module _ {C : Type 0} (good : List Entry → ℕ → kept.Kept C → Type 0) (te
             each_latch = λ l b. latch_stays good terms r.owner (r.keeper l) st.words words' st.homes st.homes st.views id v w l at session (at_latch l b) refl session (λ h q _. q) (r.each_latch l b);
             alone = alone_stays st.views id v w at (λ f. f) r.alone;
           },
-          refl,
+          (refl, subst (λ (z : Terms). MadeCommit z v.seen e) (sym ok.ends) record { before = machine_at terms st.words H; reached = r.run; history = all; can = may }),
         )

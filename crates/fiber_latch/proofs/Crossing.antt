@@ -20,7 +20,7 @@ use Rattle.atomic_table.specs.contracts.badge.Badge as badge_row
 use Rattle.atomic_table.specs.contracts.shared.Seat as place_row
 use Rattle.fiber_latch.specs.contracts.view.View as view
 use Rattle.fiber_latch.specs.contracts.rule.Kept as kept
-use Rattle.fiber_latch.specs.contracts.rule.Lain as lain
+use Rattle.fiber_latch.specs.contracts.rule.SlotValue as slot_value
 use Rattle.fiber_latch.specs.contracts.latches.Seat as seat
 use Rattle.fiber_latch.specs.contracts.latches.Seat.TheInside as seat_inside
 use Rattle.fiber_latch.specs.contracts.latches.Latches as table
@@ -41,23 +41,23 @@ badge_send = badge.the_send view.the_row
 kept_field : (C : RattleType) → IsSend C → IsSend (kept.the_field C).row
 kept_field C s = search (sendable, crosses, journal_send) depth 12
 
-lain_field : (C : RattleType) → IsSend C → IsSend (lain.the_field C).row
-lain_field C s = let k : IsSend (kept.the_field C).row = kept_field C s in search (sendable, crosses, badge.the_send) depth 12
+slot_value_field : (C : RattleType) → IsSend C → IsSend (slot_value.the_field C).row
+slot_value_field C s = let k : IsSend (kept.the_field C).row = kept_field C s in search (sendable, crosses, badge.the_send) depth 12
 
-slot_send : (C : RattleType) → IsSend C → IsSend (option.the_row (lain.the_row C))
-slot_send C s = let l : IsSend (lain.the_field C).row = lain_field C s in search (sendable, crosses) depth 12
+slot_send : (C : RattleType) → IsSend C → IsSend (option.the_row (slot_value.the_row C))
+slot_send C s = let l : IsSend (slot_value.the_field C).row = slot_value_field C s in search (sendable, crosses) depth 12
 
-place_send : (C : RattleType) → IsSend C → IsSend (place_row.the_row (option.the_row (lain.the_row C)) view.the_row)
-place_send C s = place.the_send (option.the_row (lain.the_row C)) view.the_row (slot_send C s)
+place_send : (C : RattleType) → IsSend C → IsSend (place_row.the_row (option.the_row (slot_value.the_row C)) view.the_row)
+place_send C s = place.the_send (option.the_row (slot_value.the_row C)) view.the_row (slot_send C s)
 
 seat_fields : (C : RattleType) (K : Ghosts C.Denot) → IsSend C → IsSend (seat_inside.the_row C K)
-seat_fields C K s = let p : IsSend (place_row.the_row (option.the_row (lain.the_row C)) view.the_row) = place_send C s in search (sendable, crosses) depth 12
+seat_fields C K s = let p : IsSend (place_row.the_row (option.the_row (slot_value.the_row C)) view.the_row) = place_send C s in search (sendable, crosses) depth 12
 
 pub seat_send : (C : RattleType) (K : Ghosts C.Denot) → IsSend C → IsSend (seat.the_row C K)
 seat_send C K s = view_send _ _ _ _ _ (seat_fields C K s)
 
 table_fields : (C : RattleType) (K : Ghosts C.Denot) → IsSend C → IsSync C → IsSync (table_inside.the_row C K)
-table_fields C K s y = let o : IsSend (option.the_row (lain.the_row C)) = slot_send C s in search (sendable, crosses, board.the_field_sync) depth 12
+table_fields C K s y = let o : IsSend (option.the_row (slot_value.the_row C)) = slot_send C s in search (sendable, crosses, board.the_field_sync) depth 12
 
 pub table_sync : (C : RattleType) (K : Ghosts C.Denot) → IsSend C → IsSync C → IsSync (table.the_row C K)
 table_sync C K s y = view_sync _ _ _ _ _ (table_fields C K s y)

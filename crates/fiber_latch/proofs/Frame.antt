@@ -15,7 +15,7 @@ use Rattle.fiber_latch.specs.declared.view.Terms.{Terms}
 use Rattle.fiber_latch.specs.declared.view.View.{View}
 use Rattle.fiber_latch.specs.declared.view.TableName.{TableName}
 use Rattle.fiber_latch.specs.declared.rule.Kept as kept
-use Rattle.fiber_latch.specs.declared.rule.Lain.{Lain}
+use Rattle.fiber_latch.specs.declared.rule.SlotValue.{SlotValue}
 use Rattle.fiber_latch.specs.Latch.{In, OwnsAs, IsSession, Live, ViewOk, Homes, AtHome, HandOk, IsOut, LatchOk}
 
 pub one_at : {A : Type 0} (xs : List A) (j : ℕ) (a b : A) → get_elem? xs j ≡ some a → get_elem? xs j ≡ some b → a ≡ b
@@ -68,7 +68,7 @@ module _ {C : Type 0} (good : List Entry → ℕ → kept.Kept C → Type 0) (te
 
   pub latch_stays : LatchOk good terms owner k words homes views l → LatchOk good terms owner k words' homes' (set views id w) l
   latch_stays ok = ⊎_elim
-      (λ (t : (get_or words l 0 ≡ 0) × ((y : Lain C) × (u : View) × AtHome good terms owner k words homes views l y u)).
+      (λ (t : (get_or words l 0 ≡ 0) × ((y : SlotValue C) × (u : View) × AtHome good terms owner k words homes views l y u)).
       let a = t.1.2 in inl (word ∙ t.0, (t.1.0, t.1.1, (home ∙ a.0, a.1, a.2, pass_else views id k l v w t.1.1 at session a.3 a.4, a.4, a.5))))
       (λ (t : (get_or words l 0 ≢ 0) × ((u : View) × (h : Hold) × IsOut good terms owner k words homes views l u h)).
       let a = t.1.2 in inr ((λ (e : get_or words' l 0 ≡ 0). t.0 (sym word ∙ e)), out_stays (get_or words l 0) (get_or words' l 0) word t.1.0 t.1.1 a.0 a.1 a.2 a.3 a.4))

@@ -14,9 +14,9 @@ use Rattle.fiber_latch.specs.declared.view.Terms.{Terms}
 use Rattle.fiber_latch.specs.declared.view.View.{View}
 use Rattle.fiber_latch.specs.declared.view.TableName.{TableName}
 use Rattle.fiber_latch.specs.declared.rule.Kept as kept
-use Rattle.fiber_latch.specs.declared.rule.Lain.{Lain}
-use Rattle.fiber_latch.specs.Latch.{id_of, In, IsSession, Live, Marks, Keeping, Knowing, Falls, pass_view, ViewOk, AtHome, HandOk, IsOut, Ruled, hold, behind, Gives}
-use Rattle.fiber_latch.proofs.Running.{run_gives}
+use Rattle.fiber_latch.specs.declared.rule.SlotValue.{SlotValue}
+use Rattle.fiber_latch.specs.Latch.{id_of, In, IsSession, Live, Marks, Keeping, Knowing, Falls, pass_view, ViewOk, AtHome, HandOk, IsOut, Ruled, machine_at, hold, behind, head_hold, Gives, MadeGive}
+use Rattle.fiber_latch.proofs.Running.{can_give, run_gives}
 use Rattle.fiber_latch.proofs.Frame.{pass_else, one_at, session_lives}
 use Rattle.fiber_latch.proofs.Steps.{seat_step}
 use Rattle.fiber_latch.proofs.Take.{no_olds}
@@ -32,7 +32,7 @@ one_hold h g hs falls i e = ⊎_elim (λ (x : g ≡ h). x) (λ (x : In g hs). le
 
 module _ {C : Type 0} (good : List Entry → ℕ → kept.Kept C → Type 0) (terms : Terms) where
   abbrev St : Type 0
-  St = State (Option (Lain C)) View
+  St = State (Option (SlotValue C)) View
 
   -- of a latch that the seat lists on top: how its slot stands
   pub out_here : (st : St) (r : Ruled terms good st) (id l s : ℕ) (m : Mark) (v : View) (hs : List Hold) → get_elem? st.views id ≡ some v → IsSession v.role → v.held ≡ hold l s m ∷ hs
@@ -47,7 +47,7 @@ module _ {C : Type 0} (good : List Entry → ℕ → kept.Kept C → Type 0) (te
         x.3,
         mine,
         ⊎_elim
-            (λ (t : (get_or st.words l 0 ≡ 0) × ((y : Lain C) × (u : View) × AtHome good terms r.owner (r.keeper l) st.words st.homes st.views l y u)). let z = t.0 in let p = x.2 in let q = x.3 in absurd (omega arith))
+            (λ (t : (get_or st.words l 0 ≡ 0) × ((y : SlotValue C) × (u : View) × AtHome good terms r.owner (r.keeper l) st.words st.homes st.views l y u)). let z = t.0 in let p = x.2 in let q = x.3 in absurd (omega arith))
             (λ (t : (get_or st.words l 0 ≢ 0) × ((u : View) × (h : Hold) × IsOut good terms r.owner (r.keeper l) st.words st.homes st.views l u h)).
             let o = t.1.2 in
             let is : t.1.0 ≡ v = one_at st.views id t.1.0 v (subst (λ (j : ℕ). get_elem? st.views j ≡ some t.1.0) (ap r.owner x.3 ∙ mine) o.0) at in
@@ -62,7 +62,7 @@ module _ {C : Type 0} (good : List Entry → ℕ → kept.Kept C → Type 0) (te
       let x = ok.holds h i in
       n (sym (ok.mine h.session x.1) ∙ ap r.owner (sym x.3 ∙ (ap (λ (k : ℕ). get_or st.words k 0) same ∙ word)) ∙ mine)
 
-  module _ (slots id s l : ℕ) (v : View) (hs : List Hold) (p : List Entry) (y : Lain C) (c : List (ℕ × Option (Lain C))) (session : IsSession v.role) (top : v.held ≡ hold l s (Parted p) ∷ hs)
+  module _ (slots id s l : ℕ) (v : View) (hs : List Hold) (p : List Entry) (y : SlotValue C) (c : List (ℕ × Option (SlotValue C))) (session : IsSession v.role) (top : v.held ≡ hold l s (Parted p) ∷ hs)
       (pass : y.pass.views ≡ pass_view v.table terms l p ∷ []) (table : y.pass.table_id ≡ id_of v.table) (fits : good p l y.kept) (idle : v.olds ≡ None) where
     pub give_moves : Allows (Ruled terms good) slots id (v, (l, Some y) ∷ c) l (λ _. 0) (Gives (step slots l 0 0 none) (v, (l, Some y) ∷ c))
     give_moves st r slots_is at small =
@@ -81,13 +81,14 @@ module _ {C : Type 0} (good : List Entry → ℕ → kept.Kept C → Type 0) (te
         let u_ok = r.each_view (r.keeper l) u o.4.1.1 (subst Live (sym u_role) tt) in
         let tables : v.table ≡ u.table = ok.named ∙ sym u_ok.named in
         let wide : l < length st.words = let x = r.wide in let b = o.0 in omega arith in
-        let deep : l < length st.homes = let x = r.deep in let b = o.0 in omega arith in (
+        let deep : l < length st.homes = let x = r.deep in let b = o.0 in omega arith in
+        let may = can_give terms st.words r.history r.run r.journal s l o.0 o.1 o.2 in (
           w,
           gives,
           tt,
           seat_step good terms st r id l v w (set st.words l 0) (set st.homes l (some (Some y))) at session refl (λ x. x) (length-set st.words l 0) (length-set st.homes l (some (Some y)))
               (get_or-set_other st.words l (terms.end + 1) 0 0 (λ (e : terms.end + 1 ≡ l). let b = o.0 in omega arith))
-              (run_gives terms st.words r.history r.run r.journal s l o.0 wide o.1 o.2)
+              (run_gives terms st.words r.history r.run r.journal s l o.0 wide may)
               record {
                 named = ok.named;
                 ends = ok.ends;
@@ -118,5 +119,5 @@ module _ {C : Type 0} (good : List Entry → ℕ → kept.Kept C → Type 0) (te
                   ),
                 ),
               )),
-          refl,
+          (refl, subst (λ (p : Terms × ℕ). MadeGive p.0 v.seen p.1 l) (λ i. (sym ok.ends i, (head_hold (sym top i)).session)) record { before = machine_at terms st.words r.history; reached = r.run; begins = (ok.sees.0, ok.sees.1); can = may }),
         )

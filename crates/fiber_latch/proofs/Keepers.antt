@@ -14,7 +14,7 @@ use Rattle.fiber_latch.specs.declared.view.Terms.{Terms}
 use Rattle.fiber_latch.specs.declared.view.View.{View}
 use Rattle.fiber_latch.specs.declared.view.TableName.{TableName}
 use Rattle.fiber_latch.specs.declared.rule.Kept as kept
-use Rattle.fiber_latch.specs.declared.rule.Lain.{Lain}
+use Rattle.fiber_latch.specs.declared.rule.SlotValue.{SlotValue}
 use Rattle.fiber_latch.specs.Latch.{In, IsSession, Marks, Keeps, Keeping, Knowing, ViewOk, Homes, AtHome, HandOk, IsOut, LatchOk}
 use Rattle.fiber_latch.proofs.Frame.{one_at, view_else, no_pass}
 
@@ -116,7 +116,7 @@ module _ {C : Type 0} (good : List Entry → ℕ → kept.Kept C → Type 0) (te
 
     pub latch_gone : LatchOk good terms owner k words homes views l → LatchOk good terms owner k words homes (set views id x) l
     latch_gone ok = ⊎_elim
-        (λ (t : (get_or words l 0 ≡ 0) × ((y : Lain C) × (u : View) × AtHome good terms owner k words homes views l y u)).
+        (λ (t : (get_or words l 0 ≡ 0) × ((y : SlotValue C) × (u : View) × AtHome good terms owner k words homes views l y u)).
         let a = t.1.2 in inl (t.0, (t.1.0, t.1.1, (a.0, a.1, a.2, pass_there t.1.1 a.3 a.4, a.4, a.5))))
         (λ (t : (get_or words l 0 ≢ 0) × ((v : View) × (h : Hold) × IsOut good terms owner k words homes views l v h)).
         let a = t.1.2 in inr (
@@ -145,7 +145,7 @@ module _ {C : Type 0} (good : List Entry → ℕ → kept.Kept C → Type 0) (te
 
   pub latch_comes : (xs : List View) → LatchOk good terms owner k words homes views l → LatchOk good terms owner k words homes (views ++ xs) l
   latch_comes xs ok = ⊎_elim
-      (λ (t : (get_or words l 0 ≡ 0) × ((y : Lain C) × (u : View) × AtHome good terms owner k words homes views l y u)).
+      (λ (t : (get_or words l 0 ≡ 0) × ((y : SlotValue C) × (u : View) × AtHome good terms owner k words homes views l y u)).
       let a = t.1.2 in inl (t.0, (t.1.0, t.1.1, (a.0, a.1, a.2, at_longer views xs k t.1.1 a.3, a.4, a.5))))
       (λ (t : (get_or words l 0 ≢ 0) × ((v : View) × (h : Hold) × IsOut good terms owner k words homes views l v h)).
       let a = t.1.2 in inr (t.0, (t.1.0, t.1.1, (at_longer views xs (owner (get_or words l 0)) t.1.0 a.0, a.1, a.2, a.3, hand_comes xs t.1.1.mark a.4))))

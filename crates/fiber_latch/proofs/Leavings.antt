@@ -13,24 +13,25 @@ use Rattle.fiber_latch.specs.declared.view.Terms.{Terms}
 use Rattle.fiber_latch.specs.declared.view.View.{View}
 use Rattle.fiber_latch.specs.declared.rule.Kept as kept
 use Rattle.fiber_latch.specs.declared.rule.Kept.TheVariants.{Fiber, Journal}
-use Rattle.fiber_latch.specs.declared.rule.Lain.{Lain}
+use Rattle.fiber_latch.specs.declared.rule.SlotValue.{SlotValue}
 use Rattle.fiber_latch.specs.Latch.{Ruled, Good}
 use Rattle.fiber_latch.specs.Leaving.{HasValue, HasAll, TakenOut}
 use Rattle.fiber_latch.specs.Seats.{AreStores}
 use Rattle.fiber_latch.proofs.Close.{closes}
-use Rattle.fiber_latch.proofs.Legal.{front_at, last_at}
+use Rattle.std.proofs.Math.ListN.{get_or-append}
+use Rattle.fiber_latch.proofs.Legal.{last_at}
 
 -- ---- one value more
 
 pub the_same : {A : Type 0} (xs ys : List A) (l : ℕ) (a b : A) → ys ≡ xs → get_elem? xs l ≡ some a → get_elem? ys l ≡ some b → b ≡ a
 the_same xs ys l a b same e f = some-injective b a (sym f ∙ ap (λ zs. get_elem? zs l) same ∙ e)
 
-pub taken_more : {C : Type 0} (n : ℕ) (slots : List (Option (Lain C))) (stores : List C) (store : C) → TakenOut n slots stores → HasValue slots n (Fiber store) → TakenOut (n + 1) slots (stores ++ store ∷ [])
+pub taken_more : {C : Type 0} (n : ℕ) (slots : List (Option (SlotValue C))) (stores : List C) (store : C) → TakenOut n slots stores → HasValue slots n (Fiber store) → TakenOut (n + 1) slots (stores ++ store ∷ [])
 taken_more {C} n slots stores store t here = record {
   count = length-append stores (store ∷ []) ∙ ap (λ (k : ℕ). k + 1) t.count;
   each = λ l d b. dite (ℕ_discrete l n)
       (λ (q : l ≡ n). subst (λ (k : ℕ). HasValue slots k (Fiber (get_or (stores ++ store ∷ []) k d))) (sym q) (subst (λ (c : C). HasValue slots n (Fiber c)) (sym (last_at stores n store d t.count)) here))
-      (λ (q : l ≢ n). subst (λ (c : C). HasValue slots l (Fiber c)) (sym (front_at stores (store ∷ []) l d (let e = t.count in omega arith))) (t.each l d (omega arith)));
+      (λ (q : l ≢ n). subst (λ (c : C). HasValue slots l (Fiber c)) (sym (get_or-append stores (store ∷ []) d l (let e = t.count in omega arith))) (t.each l d (omega arith)));
 }
 
 pub left_more : (filled : List Bool) (l n : ℕ) → n ≡ length filled → l < n → ((k : ℕ) → k < l → get_or filled k false ≡ false) → (k : ℕ) → k < l + 1 → get_or (set filled l false) k false ≡ false
@@ -43,8 +44,8 @@ full_less filled l end full k low high = subst IsTrue (sym (get_or-set_other fil
 
 -- ---- the last state
 
-module _ {C : Type 0} (content : C → Contents) (sound : Decls → ℕ → C → Type 0) (terms : Terms) (st : State (Option (Lain C)) View) (r : Ruled terms (Good content sound terms) st) (id : ℕ) (v : View) (at : get_elem? st.views id ≡ some v)
-    (role : v.role ≡ Sessions 1 terms.sessions) (empty : v.held ≡ []) (slots : List (Option (Lain C))) (home : (k : ℕ) (y : Option (Lain C)) → get_elem? st.homes k ≡ some (some y) → get_elem? slots k ≡ some y) where
+module _ {C : Type 0} (content : C → Contents) (sound : Decls → ℕ → C → Type 0) (terms : Terms) (st : State (Option (SlotValue C)) View) (r : Ruled terms (Good content sound terms) st) (id : ℕ) (v : View) (at : get_elem? st.views id ≡ some v)
+    (role : v.role ≡ Sessions 1 terms.sessions) (empty : v.held ≡ []) (slots : List (Option (SlotValue C))) (home : (k : ℕ) (y : Option (SlotValue C)) → get_elem? st.homes k ≡ some (some y) → get_elem? slots k ≡ some y) where
   good_at : (l : ℕ) → l ≤ terms.end → (y : kept.Kept C) × HasValue slots l y × Good content sound terms v.seen l y
   good_at l b = let c = closes content sound terms st r id v at role empty l b in (c.0.kept, (c.0, home l (Some c.0) c.1.0, refl), c.1.1)
 
@@ -68,7 +69,7 @@ module _ {C : Type 0} (content : C → Contents) (sound : Decls → ℕ → C �
       let g = good_at l b in
       let same : Some h.0 ≡ Some g.1.0 = the_same slots slots l (Some g.1.0) (Some h.0) refl g.1.1 h.1 in
       let one : h.0 ≡ g.1.0 = cc in
-      subst (Good content sound terms v.seen l) (sym g.1.2 ∙ ap (λ (z : Lain C). z.kept) (sym one) ∙ h.2) g.2
+      subst (Good content sound terms v.seen l) (sym g.1.2 ∙ ap (λ (z : SlotValue C). z.kept) (sym one) ∙ h.2) g.2
 
   pub stores_left : (stores : List C) → TakenOut terms.end slots stores → AreStores content sound terms v.seen stores
   stores_left stores t = record {

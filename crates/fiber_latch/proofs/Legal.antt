@@ -1,22 +1,17 @@
 -- Legal histories: their beginnings, their entries, one entry more, and their length.
-use Rattle.std.proofs.Common.{◌≡◌, ◌≢◌, ℕ, zero, suc, ◌+◌, ◌*◌, ◌<◌, ◌≤◌, List, [], ◌∷◌, ◌++◌, length, get_or, refl, sym, ap, ◌∙◌, subst, arith, inl, inr, ⊎_elim, All, AllPairs, IsTrue, suc-mul, length-append}
+use Rattle.std.proofs.Common.{◌≡◌, ℕ, zero, suc, ◌*◌, ◌<◌, ◌≤◌, List, [], ◌∷◌, ◌++◌, length, get_or, refl, sym, ap, ◌∙◌, subst, arith, inl, inr, ⊎_elim, All, AllPairs, IsTrue, length-append}
+use Rattle.std.proofs.Math.ListN.{get_or-append}
 use Rattle.std.proofs.lemmas.List.Elements.{All-push}
 use Rattle.std.proofs.lemmas.List.Quantifiers.{all_pairs_push}
-use mathlib.Core.Logic.{dite}
-use native.Mathlib.Decide.{ℕ_discrete}
 use Rattle.dt_model.specs.declared.calls.Entry.{Entry}
 use Rattle.dt_model.specs.declared.declared_tensors.Decls.{Decls}
 use Rattle.dt_model.specs.Runs.{IsLegal, Rises}
 use Rattle.dt_model.specs.Verdicts.{call_is_valid}
+use Rattle.dt_model.proofs.Lengths.{length-IsLegal}
 use Rattle.fiber_latch.specs.declared.view.Terms.{Terms}
 use Rattle.fiber_latch.specs.Latch.{In, Lawful}
 
 -- ---- elements by their places
-
-pub front_at : {A : Type 0} (xs ys : List A) (i : ℕ) (d : A) → i < length xs → get_or (xs ++ ys) i d ≡ get_or xs i d
-front_at [] ys i d b = absurd (omega arith)
-front_at (x ∷ xs) ys zero d b = refl
-front_at (x ∷ xs) ys (suc i) d b = front_at xs ys i d (omega arith)
 
 pub last_at : {A : Type 0} (xs : List A) (n : ℕ) (y d : A) → length xs ≡ n → get_or (xs ++ y ∷ []) n d ≡ y
 last_at [] zero y d e = refl
@@ -40,10 +35,10 @@ pub in_all : {A : Type 0} (P : A → Type 0) (xs : List A) → ((e : A) → In e
 in_all P xs each i d b = each (get_or xs i d) (place_in xs i d b)
 
 all_front : {A : Type 0} (P : A → Type 0) (xs ys : List A) → All P (xs ++ ys) → All P xs
-all_front P xs ys all i d b = subst P (front_at xs ys i d b) (all i d (let e = length-append xs ys in omega arith))
+all_front P xs ys all i d b = subst P (get_or-append xs ys d i b) (all i d (let e = length-append xs ys in omega arith))
 
 pairs_front : {A : Type 0} (R : A → A → Type 0) (xs ys : List A) → AllPairs R (xs ++ ys) → AllPairs R xs
-pairs_front R xs ys all i j d lt b = subst (λ (p : _ × _). R p.0 p.1) (λ k. (front_at xs ys i d (omega arith) k, front_at xs ys j d b k)) (all i j d lt (let e = length-append xs ys in omega arith))
+pairs_front R xs ys all i j d lt b = subst (λ (p : _ × _). R p.0 p.1) (λ k. (get_or-append xs ys d i (omega arith) k, get_or-append xs ys d j b k)) (all i j d lt (let e = length-append xs ys in omega arith))
 
 -- ---- legal histories
 
@@ -71,22 +66,9 @@ lawful_push terms H e session number valid above law = record {
   rising = all_pairs_push Rises H e law.rising (λ k d b. above k d b);
 }
 
--- ---- their length
+-- ---- their numbers, and their length
 
-abbrev one_if : {P : Type 0} → Dec P → ℕ
-one_if (yes _) = 1
-one_if (no _) = 0
-
--- how many entries are of the session
-abbrev count : ℕ → List Entry → ℕ
-count s [] = 0
-count s (e ∷ es) = one_if (ℕ_discrete e.turn.session s) + count s es
-
--- over the sessions 1 to k
-abbrev all_counts : ℕ → List Entry → ℕ
-all_counts zero H = 0
-all_counts (suc k) H = count (suc k) H + all_counts k H
-
+-- the entry's session and number are within the limits
 abbrev pub InRange : ℕ → ℕ → Entry → Type 0
 InRange k n e = (0 < e.turn.session) × (e.turn.session ≤ k) × (0 < e.turn.number) × (e.turn.number ≤ n)
 
@@ -109,58 +91,6 @@ rising_of k n decls (e ∷ es) law =
       },
     )
 
-counted : (s : ℕ) (e : Entry) (es : List Entry) → e.turn.session ≡ s → count s (e ∷ es) ≡ suc (count s es)
-counted s e es q = go (ℕ_discrete e.turn.session s)
-  where
-    go : (d : Dec (e.turn.session ≡ s)) → one_if d + count s es ≡ suc (count s es)
-    go (yes _) = omega arith
-    go (no n) = absurd (n q)
-
-not_counted : (s : ℕ) (e : Entry) (es : List Entry) → e.turn.session ≢ s → count s (e ∷ es) ≡ count s es
-not_counted s e es n = go (ℕ_discrete e.turn.session s)
-  where
-    go : (d : Dec (e.turn.session ≡ s)) → one_if d + count s es ≡ count s es
-    go (yes q) = absurd (n q)
-    go (no _) = omega arith
-
--- entries of one session rise, so there are no more of them than the room above b
-few : (k n s b : ℕ) (H : List Entry) → Rising k n H → b ≤ n → ((d : Entry) → In d H → d.turn.session ≡ s → b < d.turn.number) → count s H + b ≤ n
-few k n s b [] w fits above = omega arith
-few k n s b (e ∷ es) w fits above = dite (ℕ_discrete e.turn.session s)
-    (λ (q : e.turn.session ≡ s). let r = w.0 in let top = r.3 in let mine = above e (inl refl) q in let c = counted s e es q in
-    let rest = few k n s e.turn.number es w.2 top (λ d i z. w.1 d i (z ∙ sym q)) in omega arith)
-    (λ (m : e.turn.session ≢ s). let c = not_counted s e es m in let rest = few k n s b es w.2 fits (λ d i z. above d (inr i) z) in omega arith)
-
-no_counts : (k : ℕ) → all_counts k [] ≡ 0
-no_counts zero = refl
-no_counts (suc k) = let e = no_counts k in omega arith
-
-past_all : (k : ℕ) (e : Entry) (es : List Entry) → k < e.turn.session → all_counts k (e ∷ es) ≡ all_counts k es
-past_all zero e es a = refl
-past_all (suc k) e es a = let c = not_counted (suc k) e es (λ (q : e.turn.session ≡ suc k). omega arith) in let r = past_all k e es (omega arith) in omega arith
-
--- an entry of a session up to k is counted once
-one_more : (k : ℕ) (e : Entry) (es : List Entry) → 0 < e.turn.session → e.turn.session ≤ k → all_counts k (e ∷ es) ≡ suc (all_counts k es)
-one_more zero e es a b = absurd (omega arith)
-one_more (suc k) e es a b = dite (ℕ_discrete e.turn.session (suc k))
-    (λ (q : e.turn.session ≡ suc k). let c = counted (suc k) e es q in let r = past_all k e es (omega arith) in omega arith)
-    (λ (q : e.turn.session ≢ suc k). let c = not_counted (suc k) e es q in let r = one_more k e es a (omega arith) in omega arith)
-
-length_counts : (k n : ℕ) (H : List Entry) → Rising k n H → length H ≡ all_counts k H
-length_counts k n [] w = sym (no_counts k)
-length_counts k n (e ∷ es) w = let r = w.0 in let c = one_more k e es r.0 r.1 in let rest = length_counts k n es w.2 in omega arith
-
-positive : (k n : ℕ) (H : List Entry) (d : Entry) → Rising k n H → In d H → 0 < d.turn.number
-positive k n [] d w i = absurd i
-positive k n (e ∷ es) d w i = ⊎_elim (λ (q : d ≡ e). subst (λ (x : Entry). 0 < x.turn.number) (sym q) w.0.2) (λ (j : In d es). positive k n es d w.2 j) i
-
-all_few : (k n m : ℕ) (H : List Entry) → Rising k n H → all_counts m H ≤ m * n
-all_few k n zero H w = omega arith
-all_few k n (suc m) H w = let f = few k n (suc m) 0 H w (omega arith) (λ d i z. positive k n H d w i) in let r = all_few k n m H w in let c = suc-mul m n in omega arith
-
 -- a legal history has at most n entries of each session
 pub lawful_length : (terms : Terms) (H : List Entry) → Lawful terms H → length H ≤ terms.sessions * terms.calls
-lawful_length terms H law =
-    let k = terms.sessions in let n = terms.calls in
-    let w = rising_of k n terms.world.decls H law in
-    let e = length_counts k n H w in let f = all_few k n k H w in omega arith
+lawful_length terms H law = length-IsLegal terms.world.decls terms.sessions terms.calls H law

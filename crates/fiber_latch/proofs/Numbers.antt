@@ -15,7 +15,7 @@ use Rattle.fiber_latch.specs.declared.view.Role.{Role}
 use Rattle.fiber_latch.specs.declared.view.Terms.{Terms}
 use Rattle.fiber_latch.specs.declared.view.View.{View}
 use Rattle.fiber_latch.specs.declared.rule.Kept as kept
-use Rattle.fiber_latch.specs.declared.rule.Lain.{Lain}
+use Rattle.fiber_latch.specs.declared.rule.SlotValue.{SlotValue}
 use Rattle.fiber_latch.specs.Latch.{In, Past, Touches, Lawful, OwnsAs, CanCommit, Took}
 use Rattle.fiber_latch.specs.Seats.{SeatState, last_number, later_number, NotOf, IsJournal}
 use Rattle.fiber_latch.specs.Sitting.{state_of, Seated, Numbered, pairs}
@@ -101,7 +101,7 @@ small_room k n a b = go (mul_le k n a)
     go : k * n ≤ 16 * n → k * n ≤ 1048576
     go h = omega arith
 
-pub can_commit : {C : Type 0} (z : TableId) (f t : ℕ) (me : Me (Option (Lain C)) View) (e : Entry) → Seated z f t me → me.0.terms.end ≡ latch_count me.0.terms.world.decls → me.0.terms.sessions ≤ 16 → me.0.terms.calls ≤ 65536
+pub can_commit : {C : Type 0} (z : TableId) (f t : ℕ) (me : Me (Option (SlotValue C)) View) (e : Entry) → Seated z f t me → me.0.terms.end ≡ latch_count me.0.terms.world.decls → me.0.terms.sessions ≤ 16 → me.0.terms.calls ≤ 65536
     → f ≤ e.turn.session → e.turn.session ≤ t → IsTrue (call_is_valid me.0.terms.world.decls e.call) → ((l : ℕ) → IsTrue (commit_needs me.0.terms.world.decls e.call l) → In (l, e.turn.session) (pairs me.0.held))
     → last_number e.turn.session me.0.seen < e.turn.number → e.turn.number ≤ me.0.terms.calls → CanCommit me.0.terms me.0 e
 can_commit z f t me e sits journal few small low high valid held above top =
@@ -131,7 +131,7 @@ journal_push terms seen e j k is entries spare = record {
 }
 
 -- the seat after a commit
-pub pushed_sits : {C : Type 0} (z : TableId) (f t : ℕ) (me : Me (Option (Lain C)) View) (e : Entry) → Seated z f t me → Lawful me.0.terms (me.0.seen ++ e ∷ []) → Seated z f t (record me.0 { seen = me.0.seen ++ e ∷ [] }, me.1)
+pub pushed_sits : {C : Type 0} (z : TableId) (f t : ℕ) (me : Me (Option (SlotValue C)) View) (e : Entry) → Seated z f t me → Lawful me.0.terms (me.0.seen ++ e ∷ []) → Seated z f t (record me.0 { seen = me.0.seen ++ e ∷ [] }, me.1)
 pushed_sits z f t me e sits law = record {
   role = sits.role;
   some_session = sits.some_session;
@@ -145,7 +145,7 @@ pushed_sits z f t me e sits law = record {
 }
 
 -- what a seat has seen stays legal with an entry that it may commit; s is what callers see of the seat
-pub lawful_after : {C : Type 0} (z : TableId) (f t : ℕ) (me : Me (Option (Lain C)) View) → Seated z f t me → (s : SeatState) → state_of z f t me.0 ≡ s → (terms : Terms) → s.terms ≡ terms → (e : Entry)
+pub lawful_after : {C : Type 0} (z : TableId) (f t : ℕ) (me : Me (Option (SlotValue C)) View) → Seated z f t me → (s : SeatState) → state_of z f t me.0 ≡ s → (terms : Terms) → s.terms ≡ terms → (e : Entry)
     → s.first ≤ e.turn.session → e.turn.session ≤ s.last → IsTrue (call_is_valid terms.world.decls e.call) → last_number e.turn.session s.seen < e.turn.number → e.turn.number ≤ terms.calls → Lawful terms (s.seen ++ e ∷ [])
 lawful_after z f t me sits s is terms same e low high valid above top =
     let same' : terms ≡ me.0.terms = sym same ∙ ap (λ (x : SeatState). x.terms) (sym is) in
@@ -159,7 +159,7 @@ lawful_after z f t me sits s is terms same e low high valid above top =
     (lawful_push me.0.terms me.0.seen e (omega arith, omega arith) (omega arith, top') (subst (λ (x : Terms). IsTrue (call_is_valid x.world.decls e.call)) same' valid) (below_last me.0.terms me.0.seen e.turn.session e.turn.number sits.law above') sits.law)
 
 -- the seat after a take, whatever it answers
-pub tried_sits : {C B : Type 0} (good : Terms → List Entry → ℕ → kept.Kept C → Type 0) (z : TableId) (f t l s : ℕ) (numbers : List ℕ) (me me' : Me (Option (Lain C)) View) (met : B → List (ℕ × ℕ)) (P Q R : B → Type 0) (r : Result (kept.Kept C) B)
+pub tried_sits : {C B : Type 0} (good : Terms → List Entry → ℕ → kept.Kept C → Type 0) (z : TableId) (f t l s : ℕ) (numbers : List ℕ) (me me' : Me (Option (SlotValue C)) View) (met : B → List (ℕ × ℕ)) (P Q R : B → Type 0) (r : Result (kept.Kept C) B)
     → Seated z f t me → Numbered f t numbers me.0.seen → IfErr r (λ b. P b × Q b × R b × (me' ≡ (record me.0 { met = met b }, me.1))) → IfOk r (λ y. Took good l s me y me') → Seated z f t me' × Numbered f t numbers me'.0.seen
 tried_sits good z f t l s numbers me me' met P Q R (Ok y) sits n err took = (
   seated_after z f t me sits good l s y me' took,

@@ -17,7 +17,7 @@ use Rattle.fiber_latch.specs.declared.view.Terms.{Terms}
 use Rattle.fiber_latch.specs.declared.view.View.{View}
 use Rattle.fiber_latch.specs.declared.view.TableName.{TableName}
 use Rattle.fiber_latch.specs.declared.rule.Kept as kept
-use Rattle.fiber_latch.specs.declared.rule.Lain.{Lain}
+use Rattle.fiber_latch.specs.declared.rule.SlotValue.{SlotValue}
 use Rattle.fiber_latch.specs.Latch.{In, OwnsAs, IsSession, Live, Marks, Keeping, Knowing, Falls, ViewOk, AtHome, HandOk, IsOut, Ruled, hold, opened_to, first_view, keep_if, keep_at, Opens, Learns}
 use Rattle.dt_model.specs.Tensors.{latch_count}
 use Rattle.fiber_latch.proofs.Legal.{lawful_none}
@@ -86,20 +86,20 @@ one_of (x ∷ xs) h g f i j e = ⊎_elim
     (λ (p : In h xs). ⊎_elim (λ (q : g ≡ x). let b = f.0 h p in let c = ap (λ (y : Hold). y.latch) q in absurd (omega arith)) (λ (q : In g xs). one_of xs h g f.1 p q e) j) i
 
 module _ {C : Type 0} (good : List Entry → ℕ → kept.Kept C → Type 0) (terms : Terms) where
-  out_at : (st : State (Option (Lain C)) View) (r : Ruled terms good st) (id l s : ℕ) (m : Mark) (v : View) → get_elem? st.views id ≡ some v → IsSession v.role → In (hold l s m) v.held
+  out_at : (st : State (Option (SlotValue C)) View) (r : Ruled terms good st) (id l s : ℕ) (m : Mark) (v : View) → get_elem? st.views id ≡ some v → IsSession v.role → In (hold l s m) v.held
       → HandOk good terms r.owner (r.keeper l) st.words st.homes st.views l m
   out_at st r id l s m v at session i =
       let ok = r.each_view id v at (session_lives v.role session) in
       let x = ok.holds (hold l s m) i in
       ⊎_elim
-      (λ (t : (get_or st.words l 0 ≡ 0) × ((y : Lain C) × (u : View) × AtHome good terms r.owner (r.keeper l) st.words st.homes st.views l y u)). let z = t.0 in let p = x.2 in let q = x.3 in absurd (omega arith))
+      (λ (t : (get_or st.words l 0 ≡ 0) × ((y : SlotValue C) × (u : View) × AtHome good terms r.owner (r.keeper l) st.words st.homes st.views l y u)). let z = t.0 in let p = x.2 in let q = x.3 in absurd (omega arith))
       (λ (t : (get_or st.words l 0 ≢ 0) × ((u : View) × (h : Hold) × IsOut good terms r.owner (r.keeper l) st.words st.homes st.views l u h)).
       let o = t.1.2 in
       let is : t.1.0 ≡ v = one_at st.views id t.1.0 v (subst (λ (j : ℕ). get_elem? st.views j ≡ some t.1.0) (ap r.owner x.3 ∙ ok.mine s x.1) o.0) at in
       subst (λ (z : Hold). HandOk good terms r.owner (r.keeper l) st.words st.homes st.views l z.mark) (one_of v.held (hold l s m) t.1.1 ok.falls i (subst (λ (z : View). In t.1.1 z.held) is o.2) o.3) o.4)
       (r.each_latch l x.0)
 
-  pub starts : (words : List ℕ) (slots : List (Option (Lain C))) → 0 < terms.sessions → length words ≡ terms.end + 2 → ((l : ℕ) → l ≤ terms.end → get_or words l 0 ≡ 1) → get_or words (terms.end + 1) 0 ≡ 0 → length slots ≡ terms.end + 1
+  pub starts : (words : List ℕ) (slots : List (Option (SlotValue C))) → 0 < terms.sessions → length words ≡ terms.end + 2 → ((l : ℕ) → l ≤ terms.end → get_or words l 0 ≡ 1) → get_or words (terms.end + 1) 0 ≡ 0 → length slots ≡ terms.end + 1
       → ((l : ℕ) → l ≤ terms.end → get_elem? (map some slots) l ≡ some (some None)) → terms.end ≡ latch_count terms.world.decls → Ruled terms good (opening words slots (first_view terms))
   starts words slots some_session wide ones clock deep empty journal =
       let v : View = first_view terms in record {
@@ -137,7 +137,7 @@ module _ {C : Type 0} (good : List Entry → ℕ → kept.Kept C → Type 0) (te
       }
       first (suc id) u e = absurd (some-ne-none u (sym e))
 
-  pub learn_moves : (slots id : ℕ) (v : View) (z : TableName) (c : List (ℕ × Option (Lain C))) → IsSession v.role → v.fresh ≡ true → v.olds ≡ None → Allows (Ruled terms good) slots id (v, c) 0 (λ n. n) (Learns z (step slots 0 0 0 none) (v, c))
+  pub learn_moves : (slots id : ℕ) (v : View) (z : TableName) (c : List (ℕ × Option (SlotValue C))) → IsSession v.role → v.fresh ≡ true → v.olds ≡ None → Allows (Ruled terms good) slots id (v, c) 0 (λ n. n) (Learns z (step slots 0 0 0 none) (v, c))
   learn_moves slots id v z c session fresh idle st r deep at small =
       let ok = r.each_view id v at (session_lives v.role session) in
       let w : View = record v { fresh = false; table = z } in
@@ -177,7 +177,7 @@ module _ {C : Type 0} (good : List Entry → ℕ → kept.Kept C → Type 0) (te
         refl,
       )
 
-  pub open_moves : (slots id s l : ℕ) (v : View) (c : List (ℕ × Option (Lain C))) → IsSession v.role → In (hold l s Opened) v.held → v.olds ≡ None → Allows (Ruled terms good) slots id (v, c) l (λ n. n) (Opens (step slots l 0 0 none) (v, c))
+  pub open_moves : (slots id s l : ℕ) (v : View) (c : List (ℕ × Option (SlotValue C))) → IsSession v.role → In (hold l s Opened) v.held → v.olds ≡ None → Allows (Ruled terms good) slots id (v, c) l (λ n. n) (Opens (step slots l 0 0 none) (v, c))
   open_moves slots id s l v c session opened idle st r deep_is at small =
       let ok = r.each_view id v at (session_lives v.role session) in
       let w : View = record v { held = keep_at l v.held } in

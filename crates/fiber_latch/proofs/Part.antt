@@ -12,7 +12,7 @@ use Rattle.fiber_latch.specs.declared.view.Hold.{Hold}
 use Rattle.fiber_latch.specs.declared.view.Terms.{Terms}
 use Rattle.fiber_latch.specs.declared.view.View.{View}
 use Rattle.fiber_latch.specs.declared.rule.Kept as kept
-use Rattle.fiber_latch.specs.declared.rule.Lain.{Lain}
+use Rattle.fiber_latch.specs.declared.rule.SlotValue.{SlotValue}
 use Rattle.fiber_latch.specs.Latch.{In, Touches, OwnsAs, IsSession, Live, Keeps, Knows, Keeping, Knowing, OldsOk, pass_view, ViewOk, LatchOk, Lawful, Ruled, hold, listed, behind, Looks, parted, new_pass}
 use Rattle.fiber_latch.proofs.Running.{run_stays}
 use Rattle.fiber_latch.proofs.Legal.{lawful_front}
@@ -32,7 +32,7 @@ at_snoc_here (x ∷ xs) a b (suc j) zero k e = absurd (omega arith)
 at_snoc_here (x ∷ xs) a b (suc j) (suc n) k e = ⊎_elim (λ (t : get_elem? xs j ≡ some b). inl t) (λ (t : (j ≡ n) × (a ≡ b)). inr (ap suc t.0, t.1)) (at_snoc_here xs a b j n (omega arith) e)
 
 module _ {C : Type 0} (good : List Entry → ℕ → kept.Kept C → Type 0) (terms : Terms) where
-  pub look_moves : (slots id : ℕ) (v : View) (c : List (ℕ × Option (Lain C))) → IsSession v.role → Allows (Ruled terms good) slots id (v, c) (terms.end + 1) (λ n. n) (Looks (step slots (terms.end + 1) 0 0 none) (v, c))
+  pub look_moves : (slots id : ℕ) (v : View) (c : List (ℕ × Option (SlotValue C))) → IsSession v.role → Allows (Ruled terms good) slots id (v, c) (terms.end + 1) (λ n. n) (Looks (step slots (terms.end + 1) 0 0 none) (v, c))
   look_moves slots id v c session st r deep at small =
       let ok = r.each_view id v at (session_lives v.role session) in
       let w : View = record v { olds = None } in

@@ -1,5 +1,6 @@
 -- Two beginnings of one history, and the longer of them.
 use Rattle.std.proofs.Common.{◌≡◌, ◌⊎◌, List, [], ◌∷◌, ◌++◌, sym, refl, ap, subst, ⊎_elim, inl, inr}
+use Rattle.std.proofs.lemmas.List.{append-nil}
 use Rattle.dt_model.specs.declared.calls.Entry.{Entry}
 use Rattle.fiber_latch.specs.Latch.{In, longer, behind}
 
@@ -14,14 +15,6 @@ in_right e (x ∷ xs) ys i = inr (in_right e xs ys i)
 pub in_append : {A : Type 0} (e : A) (xs ys : List A) → In e (xs ++ ys) → In e xs ⊎ In e ys
 in_append e [] ys i = inr i
 in_append e (x ∷ xs) ys i = ⊎_elim (λ (h : e ≡ x). inl (inl h)) (λ (h : In e (xs ++ ys)). ⊎_elim (λ (a : In e xs). inl (inr a)) (λ (b : In e ys). inr b) (in_append e xs ys h)) i
-
-pub nothing_behind : {A : Type 0} (xs : List A) → xs ≡ xs ++ []
-nothing_behind [] = refl
-nothing_behind (x ∷ xs) = ap (λ t. x ∷ t) (nothing_behind xs)
-
-pub append_more : {A : Type 0} (xs ys zs : List A) → (xs ++ ys) ++ zs ≡ xs ++ (ys ++ zs)
-append_more [] ys zs = refl
-append_more (x ∷ xs) ys zs = ap (λ t. x ∷ t) (append_more xs ys zs)
 
 pub none_in : {A : Type 0} (xs : List A) → ((e : A) → In e xs → ⊥) → xs ≡ []
 none_in [] n = refl
@@ -41,14 +34,14 @@ longer_is [] b r1 r2 e = record {
   whole = e;
   in_rest = λ x i. (subst (In x) (sym e) (in_right x b r2 i), i);
   past_a = (b, refl, λ x i. subst (In x) (sym e) (in_left x b r2 i));
-  past_b = ([], nothing_behind b, λ x i. absurd i);
+  past_b = ([], sym (append-nil b), λ x i. absurd i);
   one = inr refl;
 }
 longer_is (x ∷ xs) [] r1 r2 e = record {
   rest = r1;
   whole = refl;
   in_rest = λ y i. (i, subst (In y) e (in_right y (x ∷ xs) r1 i));
-  past_a = ([], nothing_behind (x ∷ xs), λ y i. absurd i);
+  past_a = ([], sym (append-nil (x ∷ xs)), λ y i. absurd i);
   past_b = (x ∷ xs, refl, λ y i. subst (In y) e (in_left y (x ∷ xs) r1 i));
   one = inl refl;
 }

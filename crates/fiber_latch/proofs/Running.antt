@@ -3,7 +3,7 @@ use Rattle.std.proofs.Common.{◌≡◌, ◌≢◌, ℕ, zero, suc, ◌+◌, ◌
 use Rattle.std.proofs.lemmas.Bool.Decides.{nat_tests}
 use mathlib.Core.Logic.{dite}
 use native.Mathlib.Decide.{ℕ_discrete, dec_le}
-use Rattle.commit_core.specs.Machine.{Machine, Reached, with_holder, content_after, commit_needs, journal_latch}
+use Rattle.commit_core.specs.Machine.{Machine, Reached, CanTake, CanCommit, CanGive, taken, committed, given, with_holder, content_after, commit_needs, journal_latch}
 use Rattle.commit_core.specs.Machine.Reached.{opened, takes, commits, gives}
 use Rattle.commit_core.proofs.Cuts.{content_after-cut, fold_of-push}
 use Rattle.dt_model.specs.declared.calls.Entry.{Entry}
@@ -51,42 +51,43 @@ module _ (terms : Terms) (words : List ℕ) (H : List Entry) (run : Reached term
   pub run_stays : (words' : List ℕ) → words' ≡ words → Reached terms.world (machine_at terms words' H)
   run_stays words' same = subst (λ (ws : List ℕ). Reached terms.world (machine_at terms ws H)) (sym same) run
 
-  pub run_takes : (s l : ℕ) → l ≤ terms.end → l < length words → 0 < s → get_or words l 0 ≡ 0 → ((k : ℕ) → k ≤ terms.end → get_or words k 0 ≡ s → k < l) → Reached terms.world (machine_at terms (set words l s) H)
-  run_takes s l inside long some_session free above =
-      subst (λ (f : ℕ → ℕ). Reached terms.world (record { holder = f; content = λ k. cut terms.world.decls (fold_of terms.world H) k; history = H })) (sym (holders_set terms.end words l s inside long))
-      (takes (machine_at terms words H) s l run record {
-        session = some_session;
-        latch = subst (λ (n : ℕ). l ≤ n) journal inside;
-        free = inside_is terms.end words l inside ∙ free;
-        above = λ k e. dite (dec_le k terms.end)
-            (λ (y : k ≤ terms.end). above k y (sym (inside_is terms.end words k y) ∙ e))
-            (λ (n : ¬ (k ≤ terms.end)). let z = outside_is terms.end words k (omega arith) in absurd (omega arith));
-      })
+  -- the word of a latch goes from 0 to the session: the machine takes it
+  pub can_take : (s l : ℕ) → l ≤ terms.end → 0 < s → get_or words l 0 ≡ 0 → ((k : ℕ) → k ≤ terms.end → get_or words k 0 ≡ s → k < l) → CanTake terms.world.decls (machine_at terms words H) s l
+  can_take s l inside some_session free above = record {
+    session = some_session;
+    latch = subst (λ (n : ℕ). l ≤ n) journal inside;
+    free = inside_is terms.end words l inside ∙ free;
+    above = λ k e. dite (dec_le k terms.end)
+        (λ (y : k ≤ terms.end). above k y (sym (inside_is terms.end words k y) ∙ e))
+        (λ (n : ¬ (k ≤ terms.end)). let z = outside_is terms.end words k (omega arith) in absurd (omega arith));
+  }
 
-  pub run_gives : (s l : ℕ) → l ≤ terms.end → l < length words → 0 < s → get_or words l 0 ≡ s → Reached terms.world (machine_at terms (set words l 0) H)
-  run_gives s l inside long some_session held =
-      subst (λ (f : ℕ → ℕ). Reached terms.world (record { holder = f; content = λ k. cut terms.world.decls (fold_of terms.world H) k; history = H })) (sym (holders_set terms.end words l 0 inside long))
-      (gives (machine_at terms words H) s l run record { session = some_session; held = inside_is terms.end words l inside ∙ held })
+  machine_at-take : (s l : ℕ) → l ≤ terms.end → l < length words → taken (machine_at terms words H) s l ≡ machine_at terms (set words l s) H
+  machine_at-take s l inside long = λ i. record { holder = sym (holders_set terms.end words l s inside long) i; content = λ k. cut terms.world.decls (fold_of terms.world H) k; history = H }
 
-  -- an entry comes, whose session holds all that its commit needs
-  pub run_commits : (e : Entry) (n : ℕ) → 0 < e.turn.session → IsTrue (call_is_valid terms.world.decls e.call) → ((l : ℕ) → Touches terms l e → (l ≤ terms.end) × (get_or words l 0 ≡ e.turn.session))
-      → All (λ f. f.turn.session ≡ e.turn.session → f.turn.number < e.turn.number) H → Reached terms.world (machine_at terms (set words (terms.end + 1) n) (H ++ e ∷ []))
-  run_commits e n some_session valid holds above =
-      subst (λ (m : Machine). Reached terms.world m) (λ i. record {
-        holder = sym (holders_past terms.end words (terms.end + 1) n (omega arith)) i;
-        content = λ l. same l i;
-        history = H ++ e ∷ [];
-      })
-      (commits (machine_at terms words H) e run record {
-        session = some_session;
-        valid = valid;
-        holds = λ l t. let h = holds l (touched l t) in inside_is terms.end words l h.0 ∙ h.1;
-        above = above;
-      })
+  pub run_takes : (s l : ℕ) → l ≤ terms.end → l < length words → CanTake terms.world.decls (machine_at terms words H) s l → Reached terms.world (machine_at terms (set words l s) H)
+  run_takes s l inside long can = subst (λ (m : Machine). Reached terms.world m) (machine_at-take s l inside long) (takes (machine_at terms words H) s l run can)
+
+  -- the word of a latch goes from the session to 0: the machine gives it back
+  pub can_give : (s l : ℕ) → l ≤ terms.end → 0 < s → get_or words l 0 ≡ s → CanGive (machine_at terms words H) s l
+  can_give s l inside some_session held = record { session = some_session; held = inside_is terms.end words l inside ∙ held }
+
+  machine_at-give : (l : ℕ) → l ≤ terms.end → l < length words → given (machine_at terms words H) l ≡ machine_at terms (set words l 0) H
+  machine_at-give l inside long = λ i. record { holder = sym (holders_set terms.end words l 0 inside long) i; content = λ k. cut terms.world.decls (fold_of terms.world H) k; history = H }
+
+  pub run_gives : (s l : ℕ) → l ≤ terms.end → l < length words → CanGive (machine_at terms words H) s l → Reached terms.world (machine_at terms (set words l 0) H)
+  run_gives s l inside long can = subst (λ (m : Machine). Reached terms.world m) (machine_at-give l inside long) (gives (machine_at terms words H) s l run can)
+
+  -- an entry comes, whose session holds all that its commit needs: the machine commits it
+  pub can_commit : (e : Entry) → 0 < e.turn.session → IsTrue (call_is_valid terms.world.decls e.call) → ((l : ℕ) → Touches terms l e → (l ≤ terms.end) × (get_or words l 0 ≡ e.turn.session))
+      → All (λ f. f.turn.session ≡ e.turn.session → f.turn.number < e.turn.number) H → CanCommit terms.world.decls (machine_at terms words H) e
+  can_commit e some_session valid holds above = record {
+    session = some_session;
+    valid = valid;
+    holds = λ l t. let h = holds l (touched l t) in inside_is terms.end words l h.0 ∙ h.1;
+    above = above;
+  }
     where
-      same : (l : ℕ) → content_after terms.world.decls e.call l (cut terms.world.decls (fold_of terms.world H) l) ≡ cut terms.world.decls (fold_of terms.world (H ++ e ∷ [])) l
-      same l = content_after-cut terms.world.decls (fold_of terms.world H) e.call l ∙ ap (λ (m : Contents). cut terms.world.decls m l) (sym (fold_of-push terms.world H e))
-
       touched : (l : ℕ) → IsTrue (commit_needs terms.world.decls e.call l) → Touches terms l e
       touched l t = go (needs terms.world.decls e.call l) refl t
         where
@@ -94,6 +95,19 @@ module _ (terms : Terms) (words : List ℕ) (H : List Entry) (run : Reached term
           go true is t = inr (subst IsTrue (sym is) refl)
           go false is t = dite (ℕ_discrete l terms.end) (λ (q : l ≡ terms.end). inl q)
               (λ (q : l ≢ terms.end). let f : (l == journal_latch terms.world.decls) ≡ false = ne_eqb l (journal_latch terms.world.decls) (λ (c : l ≡ journal_latch terms.world.decls). q (c ∙ sym journal)) in absurd (cc (f, t)))
+
+  machine_at-commit : (e : Entry) (n : ℕ) → committed terms.world.decls (machine_at terms words H) e ≡ machine_at terms (set words (terms.end + 1) n) (H ++ e ∷ [])
+  machine_at-commit e n = λ i. record {
+    holder = sym (holders_past terms.end words (terms.end + 1) n (omega arith)) i;
+    content = λ l. same l i;
+    history = H ++ e ∷ [];
+  }
+    where
+      same : (l : ℕ) → content_after terms.world.decls e.call l (cut terms.world.decls (fold_of terms.world H) l) ≡ cut terms.world.decls (fold_of terms.world (H ++ e ∷ [])) l
+      same l = content_after-cut terms.world.decls (fold_of terms.world H) e.call l ∙ ap (λ (m : Contents). cut terms.world.decls m l) (sym (fold_of-push terms.world H e))
+
+  pub run_commits : (e : Entry) (n : ℕ) → CanCommit terms.world.decls (machine_at terms words H) e → Reached terms.world (machine_at terms (set words (terms.end + 1) n) (H ++ e ∷ []))
+  run_commits e n can = subst (λ (m : Machine). Reached terms.world m) (machine_at-commit e n) (commits (machine_at terms words H) e run can)
 
 -- ---- the first words: session 1 has taken each latch, in ascending order
 

@@ -15,7 +15,7 @@ use Rattle.fiber_latch.specs.declared.view.Role.TheVariants.{Spent, Pass, Sessio
 use Rattle.fiber_latch.specs.declared.view.Terms.{Terms}
 use Rattle.fiber_latch.specs.declared.view.View.{View}
 use Rattle.fiber_latch.specs.declared.rule.Kept as kept
-use Rattle.fiber_latch.specs.declared.rule.Lain.{Lain}
+use Rattle.fiber_latch.specs.declared.rule.SlotValue.{SlotValue}
 use Rattle.fiber_latch.specs.Latch.{In, OwnsAs, IsSession, Live, Marks, spent_view, ViewOk, Homes, AtHome, HandOk, IsOut, LatchOk, Ruled, lower, upper, joined, IsIdle}
 use Rattle.fiber_latch.proofs.Frame.{put_here, pass_else, one_at, view_else}
 use native.Mathlib.Decide.{dec_le}
@@ -72,7 +72,7 @@ module _ {C : Type 0} (good : List Entry → ℕ → kept.Kept C → Type 0) (te
 
   pub latch_idle : LatchOk good terms owner k words homes views l → LatchOk good terms owner' k words homes (set views id w) l
   latch_idle ok = ⊎_elim
-      (λ (t : (get_or words l 0 ≡ 0) × ((y : Lain C) × (u : View) × AtHome good terms owner k words homes views l y u)).
+      (λ (t : (get_or words l 0 ≡ 0) × ((y : SlotValue C) × (u : View) × AtHome good terms owner k words homes views l y u)).
       let a = t.1.2 in inl (t.0, (t.1.0, t.1.1, (a.0, a.1, a.2, pass_else views id k l v w t.1.1 at session a.3 a.4, a.4, a.5))))
       (λ (t : (get_or words l 0 ≢ 0) × ((u : View) × (h : Hold) × IsOut good terms owner k words homes views l u h)).
       let a = t.1.2 in

@@ -9,7 +9,7 @@ use Rattle.fiber_latch.specs.declared.view.Role.TheVariants.{Sessions}
 use Rattle.fiber_latch.specs.declared.view.Terms.{Terms}
 use Rattle.fiber_latch.specs.declared.view.View.{View}
 use Rattle.fiber_latch.specs.declared.rule.Kept as kept
-use Rattle.fiber_latch.specs.declared.rule.Lain.{Lain}
+use Rattle.fiber_latch.specs.declared.rule.SlotValue.{SlotValue}
 use Rattle.fiber_latch.specs.Latch.{In, OwnsAs, IsSession, Marks, Keeping, Touches, MayTake, Took, Lawful, hold, behind, head_hold, CanGive, IsIdle, lower, upper, low_part, high_part, joined, joined_role, settled, OldOk, OldsOk, holding, named_view, name_of, first_view}
 use Rattle.std.proofs.Common.{Result, Ok, Err, IfOk}
 use Rattle.fiber_latch.specs.Seats.{Tops, HasGot, IsTop, HasJoined}
@@ -35,7 +35,7 @@ all_kept h (g ∷ hs) k i = ⊎_elim (λ (e : h ≡ g). ap (λ (x : Hold). x.mar
 kept_marks : (h : Hold) (hs : List Hold) (r : Role) (f t : ℕ) → r ≡ Sessions f t → AllKept hs → In h hs → Marks Keeping r hs h.latch
 kept_marks h hs r f t is k i = subst (λ (x : Role). Marks Keeping x hs h.latch) (sym is) (h, i, refl, subst Keeping (sym (all_kept h hs k i)) tt)
 
-module _ {C : Type 0} (z : TableId) (f t : ℕ) (me : Me (Option (Lain C)) View) (sits : Seated z f t me) where
+module _ {C : Type 0} (z : TableId) (f t : ℕ) (me : Me (Option (SlotValue C)) View) (sits : Seated z f t me) where
   pub may_take : (s l : ℕ) → f ≤ s → s ≤ t → l ≤ me.0.terms.end → Tops l (pairs me.0.held) → MayTake me.0 s l
   may_take s l low high inside above = record {
     owns = subst (λ (r : Role). OwnsAs r s) (sym sits.role) (low, high);
@@ -45,10 +45,10 @@ module _ {C : Type 0} (z : TableId) (f t : ℕ) (me : Me (Option (Lain C)) View)
     idle = sits.idle;
   }
 
-  pub taken : (good : Terms → List Entry → ℕ → kept.Kept C → Type 0) (l s : ℕ) (y : kept.Kept C) (me' : Me (Option (Lain C)) View) → Tops l (pairs me.0.held) → Took good l s me y me' → HasGot good l s (state_of z f t me.0) y (state_of z f t me'.0)
+  pub taken : (good : Terms → List Entry → ℕ → kept.Kept C → Type 0) (l s : ℕ) (y : kept.Kept C) (me' : Me (Option (SlotValue C)) View) → Tops l (pairs me.0.held) → Took good l s me y me' → HasGot good l s (state_of z f t me.0) y (state_of z f t me'.0)
   taken good l s y me' above took =
       let w : View = record me.0 { held = hold l s Kept ∷ me.0.held; seen = took.seen } in
-      subst (λ (m : Me (Option (Lain C)) View). HasGot good l s (state_of z f t me.0) y (state_of z f t m.0)) (sym took.me_is) record {
+      subst (λ (m : Me (Option (SlotValue C)) View). HasGot good l s (state_of z f t me.0) y (state_of z f t m.0)) (sym took.me_is) record {
         rest = refl;
         grown = (
           took.grown.0,
@@ -61,10 +61,11 @@ module _ {C : Type 0} (z : TableId) (f t : ℕ) (me : Me (Option (Lain C)) View)
           },
         );
         fits = took.fits;
+        made = took.made;
       }
 
-  pub seated_after : (good : Terms → List Entry → ℕ → kept.Kept C → Type 0) (l s : ℕ) (y : kept.Kept C) (me' : Me (Option (Lain C)) View) → Took good l s me y me' → Seated z f t me'
-  seated_after good l s y me' took = subst (λ (m : Me (Option (Lain C)) View). Seated z f t m) (sym took.me_is) record {
+  pub seated_after : (good : Terms → List Entry → ℕ → kept.Kept C → Type 0) (l s : ℕ) (y : kept.Kept C) (me' : Me (Option (SlotValue C)) View) → Took good l s me y me' → Seated z f t me'
+  seated_after good l s y me' took = subst (λ (m : Me (Option (SlotValue C)) View). Seated z f t m) (sym took.me_is) record {
     role = sits.role;
     some_session = sits.some_session;
     known = sits.known;
@@ -72,7 +73,7 @@ module _ {C : Type 0} (z : TableId) (f t : ℕ) (me : Me (Option (Lain C)) View)
     table = sits.table;
     within = sits.within;
     law = took.law;
-    hand = ap (λ (c : List (ℕ × Option (Lain C))). (l, None) ∷ c) sits.hand;
+    hand = ap (λ (c : List (ℕ × Option (SlotValue C))). (l, None) ∷ c) sits.hand;
     kept = (refl, sits.kept);
   }
 
@@ -84,11 +85,11 @@ top_of : (l : ℕ) (hs : List Hold) → AllKept hs → IsTop l (pairs hs) → hs
 top_of l [] k i = absurd i
 top_of l (h ∷ hs) k i = λ j. record { latch = i j; session = h.session; mark = k.0 j } ∷ hs
 
-hand_of : {C : Type 0} (l : ℕ) (hs : List Hold) (c : List (ℕ × Option (Lain C))) → IsTop l (pairs hs) → c ≡ hands hs → c ≡ (l, None) ∷ rest c
+hand_of : {C : Type 0} (l : ℕ) (hs : List Hold) (c : List (ℕ × Option (SlotValue C))) → IsTop l (pairs hs) → c ≡ hands hs → c ≡ (l, None) ∷ rest c
 hand_of l [] c i e = absurd i
 hand_of {C} l (h ∷ hs) c i e = e ∙ (λ j. (i j, None) ∷ rest (sym e j))
 
-pub can_give : {C : Type 0} (z : TableId) (f t : ℕ) (me : Me (Option (Lain C)) View) (sits : Seated z f t me) (good : Terms → List Entry → ℕ → kept.Kept C → Type 0) (l : ℕ) (y : kept.Kept C) → IsTop l (pairs me.0.held) → good me.0.terms me.0.seen l y → CanGive good me l y
+pub can_give : {C : Type 0} (z : TableId) (f t : ℕ) (me : Me (Option (SlotValue C)) View) (sits : Seated z f t me) (good : Terms → List Entry → ℕ → kept.Kept C → Type 0) (l : ℕ) (y : kept.Kept C) → IsTop l (pairs me.0.held) → good me.0.terms me.0.seen l y → CanGive good me l y
 can_give z f t me sits good l y top fits = record {
   session = subst IsSession (sym sits.role) tt;
   top = top_of l me.0.held sits.kept top;
@@ -98,14 +99,14 @@ can_give z f t me sits good l y top fits = record {
   fits = fits;
 }
 
-pub is_idle : {C : Type 0} (z : TableId) (f t : ℕ) (me : Me (Option (Lain C)) View) → Seated z f t me → pairs me.0.held ≡ [] → IsIdle me.0 f t
+pub is_idle : {C : Type 0} (z : TableId) (f t : ℕ) (me : Me (Option (SlotValue C)) View) → Seated z f t me → pairs me.0.held ≡ [] → IsIdle me.0 f t
 is_idle z f t me sits empty = record { role = sits.role; held = none_held me.0.held empty; idle = sits.idle; known = sits.known }
   where
     none_held : (hs : List Hold) → pairs hs ≡ [] → hs ≡ []
     none_held [] e = refl
     none_held (h ∷ hs) e = absurd (cc)
 
-pub lower_sits : {C : Type 0} (z : TableId) (f t a : ℕ) (me : Me (Option (Lain C)) View) → Seated z f t me → a ≤ t → Seated z f (a - 1) (lower a me.0, me.1)
+pub lower_sits : {C : Type 0} (z : TableId) (f t a : ℕ) (me : Me (Option (SlotValue C)) View) → Seated z f t me → a ≤ t → Seated z f (a - 1) (lower a me.0, me.1)
 lower_sits z f t a me sits high = record {
   role = ap (low_part a) sits.role;
   some_session = sits.some_session;
@@ -118,7 +119,7 @@ lower_sits z f t a me sits high = record {
   kept = sits.kept;
 }
 
-pub upper_sits : {C : Type 0} (z : TableId) (f t a : ℕ) (me : Me (Option (Lain C)) View) → Seated z f t me → f < a → Seated {C = C} z a t (upper a me.0, [])
+pub upper_sits : {C : Type 0} (z : TableId) (f t a : ℕ) (me : Me (Option (SlotValue C)) View) → Seated z f t me → f < a → Seated {C = C} z a t (upper a me.0, [])
 upper_sits z f t a me sits low = record {
   role = ap (high_part a) sits.role;
   some_session = let x = sits.some_session in omega arith;
@@ -131,7 +132,7 @@ upper_sits z f t a me sits low = record {
   kept = tt;
 }
 
-pub joined_sits : {C : Type 0} (z : TableId) (f m t : ℕ) (me you : Me (Option (Lain C)) View) → Seated z f m me → you.0.role ≡ Sessions (m + 1) t → t ≤ me.0.terms.sessions → Lawful me.0.terms (joined me.0 you.0).seen → Seated z f t (settled (joined me.0 you.0), me.1)
+pub joined_sits : {C : Type 0} (z : TableId) (f m t : ℕ) (me you : Me (Option (SlotValue C)) View) → Seated z f m me → you.0.role ≡ Sessions (m + 1) t → t ≤ me.0.terms.sessions → Lawful me.0.terms (joined me.0 you.0).seen → Seated z f t (settled (joined me.0 you.0), me.1)
 joined_sits z f m t me you sits role within law = record {
   role = λ i. joined_role (sits.role i) (role i);
   some_session = sits.some_session;
@@ -156,8 +157,8 @@ has_joined z f m t v u rv ru told =
       theirs = o.theirs;
     }
 
-pub no_hand : {C : Type 0} (z : TableId) (f t : ℕ) (me : Me (Option (Lain C)) View) → Seated z f t me → pairs me.0.held ≡ [] → me.1 ≡ []
+pub no_hand : {C : Type 0} (z : TableId) (f t : ℕ) (me : Me (Option (SlotValue C)) View) → Seated z f t me → pairs me.0.held ≡ [] → me.1 ≡ []
 no_hand {C} z f t me sits empty = let i = is_idle z f t me sits empty in sits.hand ∙ ap (hands {C = C}) i.held
 
-pub first_sits : {C : Type 0} (terms : Terms) (z : TableId) (me : Me (Option (Lain C)) View) → me ≡ (holding (named_view (name_of z) (first_view terms)) [], []) → Seated z 1 terms.sessions me
-first_sits {C} terms z me is = subst (λ (m : Me (Option (Lain C)) View). Seated z 1 terms.sessions m) (sym is) record { role = refl; some_session = omega arith; known = refl; idle = refl; table = refl; within = omega arith; law = lawful_none terms; hand = refl; kept = tt }
+pub first_sits : {C : Type 0} (terms : Terms) (z : TableId) (me : Me (Option (SlotValue C)) View) → me ≡ (holding (named_view (name_of z) (first_view terms)) [], []) → Seated z 1 terms.sessions me
+first_sits {C} terms z me is = subst (λ (m : Me (Option (SlotValue C)) View). Seated z 1 terms.sessions m) (sym is) record { role = refl; some_session = omega arith; known = refl; idle = refl; table = refl; within = omega arith; law = lawful_none terms; hand = refl; kept = tt }

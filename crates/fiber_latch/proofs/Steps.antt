@@ -13,7 +13,7 @@ use Rattle.fiber_latch.specs.declared.view.Role.{Role}
 use Rattle.fiber_latch.specs.declared.view.Terms.{Terms}
 use Rattle.fiber_latch.specs.declared.view.View.{View}
 use Rattle.fiber_latch.specs.declared.rule.Kept as kept
-use Rattle.fiber_latch.specs.declared.rule.Lain.{Lain}
+use Rattle.fiber_latch.specs.declared.rule.SlotValue.{SlotValue}
 use Rattle.fiber_latch.specs.Latch.{In, OwnsAs, IsSession, Live, ViewOk, Homes, LatchOk, machine_at, Ruled, OwnedBy}
 use Rattle.fiber_latch.proofs.Frame.{latch_stays, view_words, put_here, one_at, view_else}
 
@@ -54,7 +54,7 @@ owned_else views owner most id v w at none_owned owned i a b =
     )
 
 module _ {C : Type 0} (good : List Entry → ℕ → kept.Kept C → Type 0) (terms : Terms) where
-  pub seat_step : (s : State (Option (Lain C)) View) (r : Ruled terms good s) (id i : ℕ) (v w : View) (words' : List ℕ) (homes' : Homes C)
+  pub seat_step : (s : State (Option (SlotValue C)) View) (r : Ruled terms good s) (id i : ℕ) (v w : View) (words' : List ℕ) (homes' : Homes C)
       → get_elem? s.views id ≡ some v → IsSession v.role → w.role ≡ v.role → (w.fresh ≡ true → v.fresh ≡ true)
       → length words' ≡ length s.words → length homes' ≡ length s.homes → get_or words' (terms.end + 1) 0 ≡ get_or s.words (terms.end + 1) 0
       → Reached terms.world (machine_at terms words' r.history)

@@ -15,9 +15,9 @@ use Rattle.fiber_latch.specs.declared.view.Role.TheVariants.{Spent, Pass, Sessio
 use Rattle.fiber_latch.specs.declared.view.Terms.{Terms}
 use Rattle.fiber_latch.specs.declared.view.View.{View}
 use Rattle.fiber_latch.specs.declared.rule.Kept as kept
-use Rattle.fiber_latch.specs.declared.rule.Lain.{Lain}
-use Rattle.fiber_latch.specs.Latch.{id_of, In, OwnsAs, Live, Marks, Keeping, Knowing, Foreign, OldsOk, AtHome, IsOut, Ruled, hold, listed, Above, Takes}
-use Rattle.fiber_latch.proofs.Running.{run_takes, run_stays}
+use Rattle.fiber_latch.specs.declared.rule.SlotValue.{SlotValue}
+use Rattle.fiber_latch.specs.Latch.{id_of, In, Begins, OwnsAs, Live, Marks, Keeping, Knowing, Foreign, OldsOk, AtHome, IsOut, Ruled, machine_at, hold, listed, Above, Takes, MadeTake, FoundHeld}
+use Rattle.fiber_latch.proofs.Running.{can_take, run_takes, run_stays, inside_is}
 use Rattle.fiber_latch.proofs.Frame.{put_here, pass_else, one_at, session_lives, owner_is_session}
 use Rattle.fiber_latch.proofs.Steps.{seat_step}
 
@@ -37,18 +37,18 @@ module _ {C : Type 0} (good_at : Terms → List Entry → ℕ → kept.Kept C �
   good = good_at terms
 
   abbrev St : Type 0
-  St = State (Option (Lain C)) View
+  St = State (Option (SlotValue C)) View
 
-  module _ (slots id s l : ℕ) (v : View) (c : List (ℕ × Option (Lain C))) (owns : OwnsAs v.role s) (some_session : 0 < s) (inside : l ≤ terms.end) (above : Above l v.held) (idle : v.olds ≡ None) where
+  module _ (slots id s l : ℕ) (v : View) (c : List (ℕ × Option (SlotValue C))) (owns : OwnsAs v.role s) (some_session : 0 < s) (inside : l ≤ terms.end) (above : Above l v.held) (idle : v.olds ≡ None) where
     abbrev Moved : St → ℕ → ℕ → Type 0
-    Moved st n x = (w : View) × (a : Act (Option (Lain C))) × Valid st.homes c a × Ruled terms good (stepped st l x id c w a) × Takes good_at (step slots l 0 s none) (v, c) n (w, carried_after c a)
+    Moved st n x = (w : View) × (a : Act (Option (SlotValue C))) × Valid st.homes c a × Ruled terms good (stepped st l x id c w a) × Takes good_at (step slots l 0 s none) (v, c) n (w, carried_after c a)
 
     -- each latch that the session holds is below the new one
     all_below : (st : St) (r : Ruled terms good st) → get_elem? st.views id ≡ some v → (k : ℕ) → k ≤ terms.end → get_or st.words k 0 ≡ s → k < l
     all_below st r at k b word =
         let ok = r.each_view id v at (session_lives v.role (owner_is_session v.role s owns)) in
         ⊎_elim
-        (λ (t : (get_or st.words k 0 ≡ 0) × ((y : Lain C) × (u : View) × AtHome good terms r.owner (r.keeper k) st.words st.homes st.views k y u)). let z = t.0 in absurd (omega arith))
+        (λ (t : (get_or st.words k 0 ≡ 0) × ((y : SlotValue C) × (u : View) × AtHome good terms r.owner (r.keeper k) st.words st.homes st.views k y u)). let z = t.0 in absurd (omega arith))
         (λ (t : (get_or st.words k 0 ≢ 0) × ((u : View) × (h : Hold) × IsOut good terms r.owner (r.keeper k) st.words st.homes st.views k u h)).
         let o = t.1.2 in
         let is : t.1.0 ≡ v = one_at st.views id t.1.0 v (subst (λ (j : ℕ). get_elem? st.views j ≡ some t.1.0) (ap r.owner word ∙ ok.mine s owns) o.0) at in
@@ -59,20 +59,21 @@ module _ {C : Type 0} (good_at : Terms → List Entry → ℕ → kept.Kept C �
     hit st r at free =
         let ok = r.each_view id v at (session_lives v.role (owner_is_session v.role s owns)) in
         let w : View = listed v l s Taken v.held in
-        let homed : (y : Lain C) × (u : View) × AtHome good terms r.owner (r.keeper l) st.words st.homes st.views l y u = ⊎_elim
-        (λ (t : (get_or st.words l 0 ≡ 0) × ((y : Lain C) × (u : View) × AtHome good terms r.owner (r.keeper l) st.words st.homes st.views l y u)). t.1)
+        let homed : (y : SlotValue C) × (u : View) × AtHome good terms r.owner (r.keeper l) st.words st.homes st.views l y u = ⊎_elim
+        (λ (t : (get_or st.words l 0 ≡ 0) × ((y : SlotValue C) × (u : View) × AtHome good terms r.owner (r.keeper l) st.words st.homes st.views l y u)). t.1)
         (λ (t : (get_or st.words l 0 ≢ 0) × ((u : View) × (h : Hold) × IsOut good terms r.owner (r.keeper l) st.words st.homes st.views l u h)). absurd (t.0 free)) (r.each_latch l inside) in
         let y = homed.0 in let u = homed.1 in let a = homed.2 in
         let wide : l < length st.words = let x = r.wide in omega arith in
         let deep : l < length st.homes = let x = r.deep in omega arith in
         let now : get_or (set st.words l s) l 0 ≡ s = get_or-set_same st.words l s 0 wide in
+        let can = can_take terms st.words r.history r.run r.journal s l inside some_session free (all_below st r at) in
         let pass_ok = r.each_view (r.keeper l) u a.3 (subst Live (sym a.4) tt) in (
           w,
           takes l (Some y),
           a.0,
           seat_step good terms st r id l v w (set st.words l s) (set st.homes l none) at (owner_is_session v.role s owns) refl (λ x. x) (length-set st.words l s) (length-set st.homes l none)
               (get_or-set_other st.words l (terms.end + 1) s 0 (λ (e : terms.end + 1 ≡ l). omega arith))
-              (run_takes terms st.words r.history r.run r.journal s l inside wide some_session free (all_below st r at))
+              (run_takes terms st.words r.history r.run r.journal s l inside wide can)
               record {
                 named = ok.named;
                 ends = ok.ends;
@@ -104,7 +105,22 @@ module _ {C : Type 0} (good_at : Terms → List Entry → ℕ → kept.Kept C �
                   ),
                 ),
               )),
-          ((λ _. (y, u, (refl, a.1, a.2 ∙ ap id_of (pass_ok.named ∙ sym ok.named), a.4, subst (λ (z : Terms). good_at z u.seen l y.kept) (sym ok.ends) a.5))), (λ n. absurd (n free))),
+          (
+            (λ _. (
+              y,
+              u,
+              (
+                refl,
+                a.1,
+                a.2 ∙ ap id_of (pass_ok.named ∙ sym ok.named),
+                a.4,
+                subst (λ (z : Terms). good_at z u.seen l y.kept) (sym ok.ends) a.5,
+                subst (λ (z : Terms). (made : MadeTake z v.seen s l) × Begins u.seen made.before.history) (sym ok.ends)
+                    (record { before = machine_at terms st.words r.history; reached = r.run; begins = (ok.sees.0, ok.sees.1); can = can }, (pass_ok.sees.0, pass_ok.sees.1)),
+              ),
+            )),
+            (λ n. absurd (n free)),
+          ),
         )
 
     miss : (st : St) (r : Ruled terms good st) → get_elem? st.views id ≡ some v → get_or st.words l 0 ≢ 0 → Moved st (get_or st.words l 0) (get_or st.words l 0)
@@ -140,14 +156,14 @@ module _ {C : Type 0} (good_at : Terms → List Entry → ℕ → kept.Kept C �
             (λ _. (
               refl,
               (λ (own : OwnsAs v.role n). ⊎_elim
-                  (λ (t : (get_or st.words l 0 ≡ 0) × ((y : Lain C) × (u : View) × AtHome good terms r.owner (r.keeper l) st.words st.homes st.views l y u)). held t.0)
+                  (λ (t : (get_or st.words l 0 ≡ 0) × ((y : SlotValue C) × (u : View) × AtHome good terms r.owner (r.keeper l) st.words st.homes st.views l y u)). held t.0)
                   (λ (t : (get_or st.words l 0 ≢ 0) × ((u : View) × (h : Hold) × IsOut good terms r.owner (r.keeper l) st.words st.homes st.views l u h)).
                   let o = t.1.2 in
                   let is : t.1.0 ≡ v = one_at st.views id t.1.0 v (subst (λ (j : ℕ). get_elem? st.views j ≡ some t.1.0) (ok.mine n own) o.0) at in
                   let b = above t.1.1 (subst (λ (x : View). In t.1.1 x.held) is o.2) in let c = o.3 in absurd (omega arith))
                   (r.each_latch l inside)),
               subst (λ (x : Terms). n ≤ x.sessions) (sym ok.ends) (⊎_elim
-                  (λ (t : (get_or st.words l 0 ≡ 0) × ((y : Lain C) × (u : View) × AtHome good terms r.owner (r.keeper l) st.words st.homes st.views l y u)). absurd (held t.0))
+                  (λ (t : (get_or st.words l 0 ≡ 0) × ((y : SlotValue C) × (u : View) × AtHome good terms r.owner (r.keeper l) st.words st.homes st.views l y u)). absurd (held t.0))
                   (λ (t : (get_or st.words l 0 ≢ 0) × ((u : View) × (h : Hold) × IsOut good terms r.owner (r.keeper l) st.words st.homes st.views l u h)).
                   let o = t.1.2 in
                   let u_ok = r.each_view (r.owner n) t.1.0 o.0 (session_lives t.1.0.role o.1) in
@@ -155,6 +171,7 @@ module _ {C : Type 0} (good_at : Terms → List Entry → ℕ → kept.Kept C �
                   let b = (u_ok.within t.1.1.session x.1).1 in
                   subst (λ (j : ℕ). j ≤ terms.sessions) (sym x.3 ∙ ap (λ (j : ℕ). get_or st.words j 0) o.3) b)
                   (r.each_latch l inside)),
+              subst (λ (x : Terms). FoundHeld x v.seen n l) (sym ok.ends) record { before = machine_at terms st.words r.history; reached = r.run; begins = (ok.sees.0, ok.sees.1); held = inside_is terms.end st.words l inside },
             )),
           ),
         )

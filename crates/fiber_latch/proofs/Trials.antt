@@ -9,7 +9,8 @@ use Rattle.dt_model.specs.Contents.{Contents, same_cell, with_more}
 use Rattle.dt_model.specs.Runs.{cut}
 use Rattle.dt_model.specs.Tensors.{latch_of}
 use Rattle.fiber_latch.specs.Trial.{found, cell_in, content_of, HasPut, AreNew}
-use Rattle.fiber_latch.proofs.Legal.{front_at, last_at}
+use Rattle.std.proofs.Math.ListN.{get_or-append}
+use Rattle.fiber_latch.proofs.Legal.{last_at}
 
 found_here : (p : ℕ × ℕ) (ps : List (ℕ × ℕ)) (x : ℕ) → p.0 ≡ x → found (p ∷ ps) x ≡ p.1
 found_here p ps x e = ap (λ (b : Bool). if b then p.1 else found ps x) (eq-eqb p.0 x e)
@@ -101,10 +102,10 @@ pub are_new_push : {A : Type 0} (latch : A → ℕ) (cells : A → List (ℕ × 
 are_new_push {A} latch cells xs n a long l c new = record {
   latches = λ i d b. dite (ℕ_discrete i n)
       (λ (q : i ≡ n). subst (λ (k : ℕ). latch (get_or (xs ++ a ∷ []) k d) ≡ k) (sym q) (ap latch (last_at xs n a d long) ∙ l))
-      (λ (q : i ≢ n). ap latch (front_at xs (a ∷ []) i d (below i b q)) ∙ new.latches i d (below i b q));
+      (λ (q : i ≢ n). ap latch (get_or-append xs (a ∷ []) d i (below i b q)) ∙ new.latches i d (below i b q));
   empty = λ i d b. dite (ℕ_discrete i n)
       (λ (q : i ≡ n). subst (λ (k : ℕ). cells (get_or (xs ++ a ∷ []) k d) ≡ []) (sym q) (ap cells (last_at xs n a d long) ∙ c))
-      (λ (q : i ≢ n). ap cells (front_at xs (a ∷ []) i d (below i b q)) ∙ new.empty i d (below i b q));
+      (λ (q : i ≢ n). ap cells (get_or-append xs (a ∷ []) d i (below i b q)) ∙ new.empty i d (below i b q));
 }
   where
     below : (i : ℕ) → i < length (xs ++ a ∷ []) → i ≢ n → i < length xs

@@ -5,22 +5,24 @@ use Rattle.atomic_table.specs.Table.{Me, rest}
 use Rattle.dt_model.specs.declared.calls.Entry.{Entry}
 use Rattle.dt_model.specs.Verdicts.{call_is_valid}
 use Rattle.dt_model.specs.Tensors.{latch_count}
-use Rattle.fiber_latch.specs.declared.view.Mark.TheVariants.{Opened, Taken, Kept}
+use Rattle.fiber_latch.specs.declared.view.Mark.TheVariants.{Taken, Kept}
 use Rattle.fiber_latch.specs.declared.view.Hold.{Hold}
 use Rattle.fiber_latch.specs.declared.view.Role.TheVariants.{Pass, Sessions}
 use Rattle.fiber_latch.specs.declared.view.Terms.{Terms}
 use Rattle.fiber_latch.specs.declared.view.View.{View}
-use Rattle.fiber_latch.specs.declared.rule.About.{About}
+use Rattle.fiber_latch.specs.declared.rule.TableKey.{TableKey}
 use Rattle.fiber_latch.specs.declared.rule.Kept as kept
-use Rattle.fiber_latch.specs.declared.rule.Lain.{Lain}
+use Rattle.fiber_latch.specs.declared.rule.SlotValue.{SlotValue}
 use Rattle.fiber_latch.specs.Views.{In, Touches, Lawful, OwnsAs, IsSession, Keeps, Past, Above, hold, behind, spent_view}
+use Rattle.fiber_latch.specs.Steps.{top_session}
+use Rattle.fiber_latch.specs.Made.{MadeTake}
 
 -- what the table was opened for
-abbrev pub terms_of : About → Terms
+abbrev pub terms_of : TableKey → Terms
 terms_of key = record { world = key.world.value; end = key.end; sessions = key.sessions; calls = key.calls }
 
 -- the table's words and slots, and the limits
-abbrev pub IsSized : TableId → About → Type 0
+abbrev pub IsSized : TableId → TableKey → Type 0
 IsSized z key = (z.words ≡ key.end + 2) × (z.slots ≡ key.end + 1) × (key.end < 4294967295) × (key.sessions ≤ 16) × (key.calls ≤ 65536) × (key.end ≡ latch_count key.world.value.decls)
 
 -- ---- take
@@ -45,13 +47,15 @@ pub record Strange (v : View) (l : ℕ) (e : Entry) : Type 0 where
   pub latch : (j : ℕ) → j ≢ l → Keeps v j → ¬ Touches v.terms j e
 
 -- what a whole take tells
-pub record Took {C : Type 0} (good : Terms → List Entry → ℕ → kept.Kept C → Type 0) (l s : ℕ) (me : Me (Option (Lain C)) View) (y : kept.Kept C) (me' : Me (Option (Lain C)) View) : Type 0 where
+pub record Took {C : Type 0} (good : Terms → List Entry → ℕ → kept.Kept C → Type 0) (l s : ℕ) (me : Me (Option (SlotValue C)) View) (y : kept.Kept C) (me' : Me (Option (SlotValue C)) View) : Type 0 where
   pub seen : List Entry
   pub me_is : me' ≡ (record me.0 { held = hold l s Kept ∷ me.0.held; seen = seen }, (l, None) ∷ me.1)
   pub grown : Past (Strange me.0 l) me.0.seen seen
   pub law : Lawful me.0.terms seen
   pub fits : good me.0.terms seen l y
+  pub made : MadeTake me.0.terms seen s l
 
+-- the first view, which is the one of a badge that was a single seat
 abbrev pub the_view : List View → View
 the_view [] = spent_view
 the_view (u ∷ us) = u
@@ -70,15 +74,8 @@ pub record CanCommit (terms : Terms) (v : View) (e : Entry) : Type 0 where
 
 -- ---- give
 
-abbrev pub head_hold : List Hold → Hold
-head_hold [] = hold 0 0 Opened
-head_hold (h ∷ hs) = h
-
-abbrev pub top_session : View → ℕ
-top_session v = (head_hold v.held).session
-
 -- the latch is the greatest that the seat holds, and the value is good for what the seat has seen
-pub record CanGive {C : Type 0} (good : Terms → List Entry → ℕ → kept.Kept C → Type 0) (me : Me (Option (Lain C)) View) (l : ℕ) (y : kept.Kept C) : Type 0 where
+pub record CanGive {C : Type 0} (good : Terms → List Entry → ℕ → kept.Kept C → Type 0) (me : Me (Option (SlotValue C)) View) (l : ℕ) (y : kept.Kept C) : Type 0 where
   pub session : IsSession me.0.role
   pub top : me.0.held ≡ hold l (top_session me.0) Kept ∷ behind me.0.held
   pub hand : me.1 ≡ (l, None) ∷ rest me.1

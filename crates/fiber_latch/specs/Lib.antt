@@ -1,5 +1,6 @@
 pub mod Views
 pub mod Rule
+pub mod Made
 pub mod Steps
 pub mod Conditions
 pub mod Openings

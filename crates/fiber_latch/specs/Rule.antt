@@ -21,15 +21,15 @@ use Rattle.fiber_latch.specs.declared.view.View.{View}
 use Rattle.fiber_latch.specs.declared.view.TableName.{TableName}
 use Rattle.fiber_latch.specs.declared.rule.Kept as kept
 use Rattle.fiber_latch.specs.declared.rule.Kept.TheVariants.{Fiber, Journal}
-use Rattle.fiber_latch.specs.declared.rule.Lain.{Lain}
+use Rattle.fiber_latch.specs.declared.rule.SlotValue.{SlotValue}
 use Rattle.fiber_latch.specs.Views.{id_of, In, Touches, Lawful, OwnsAs, IsSession, Live, Keeps, Foreign, Falls, pass_view}
 
 -- ---- what the last join met
 
 -- no later entry touches the other's latch, where it was a pass, or is of the other's sessions
-abbrev pub OtherPast : Terms → Role → View → List Entry → Entry → Type 0
-OtherPast terms (Pass w) v mine e = ¬ Touches terms w e
-OtherPast terms r v mine e = ¬ OwnsAs r e.turn.session
+abbrev pub OtherPast : Terms → Role → Entry → Type 0
+OtherPast terms (Pass w) e = ¬ Touches terms w e
+OtherPast terms r e = ¬ OwnsAs r e.turn.session
 
 -- no later entry is of the seat's sessions, or touches a latch that it kept before
 abbrev pub MinePast : Terms → Role → View → Role → Entry → Type 0
@@ -39,8 +39,9 @@ MinePast terms r v was e = ¬ OwnsAs was e.turn.session
 -- both lists that a join met are beginnings of what the seat has seen
 pub record OldOk (terms : Terms) (v : View) (o : Old) : Type 0 where
   pub mine : (past : List Entry) × (v.seen ≡ o.mine ++ past) × ((e : Entry) → In e past → MinePast terms o.other v o.was e)
-  pub theirs : (past : List Entry) × (v.seen ≡ o.theirs ++ past) × ((e : Entry) → In e past → OtherPast terms o.other v o.mine e)
+  pub theirs : (past : List Entry) × (v.seen ≡ o.theirs ++ past) × ((e : Entry) → In e past → OtherPast terms o.other e)
 
+-- where the seat has just joined another, what it met is as it must be
 abbrev pub OldsOk : Terms → View → Option Old → Type 0
 OldsOk terms v None = Unit {0}
 OldsOk terms v (Some o) = OldOk terms v o
@@ -61,12 +62,13 @@ pub record ViewOk (terms : Terms) (H : List Entry) (owner keeper : ℕ → ℕ) 
 
 -- ---- one latch
 
+-- the slots: none where a seat has it in hand, else what lies in it
 abbrev pub Homes : Type 0 → Type 0
-Homes C = List (maybe.Option (Option (Lain C)))
+Homes C = List (maybe.Option (Option (SlotValue C)))
 
 module _ {C : Type 0} (good : List Entry → ℕ → kept.Kept C → Type 0) (terms : Terms) (owner : ℕ → ℕ) (k : ℕ) (words : List ℕ) (homes : Homes C) (views : List View) (l : ℕ) where
   -- a value and the latch's pass lie in the slot, and the value is good for what the pass has seen
-  abbrev pub AtHome : Lain C → View → Type 0
+  abbrev pub AtHome : SlotValue C → View → Type 0
   AtHome y u = (get_elem? homes l ≡ some (some (Some y))) × (y.pass.views ≡ u ∷ []) × (y.pass.table_id ≡ id_of u.table) × (get_elem? views k ≡ some u) × (u.role ≡ Pass l) × good u.seen l y.kept
 
   -- where the slot is, by the seat's mark
@@ -82,7 +84,7 @@ module _ {C : Type 0} (good : List Entry → ℕ → kept.Kept C → Type 0) (te
 
   -- the word is 0 and the slot is at home, or the word is a session that holds the latch
   abbrev pub LatchOk : Type 0
-  LatchOk = ((slice_index words l ≡ 0) × ((y : Lain C) × (u : View) × AtHome y u)) ⊎ ((slice_index words l ≢ 0) × ((v : View) × (h : Hold) × IsOut v h))
+  LatchOk = ((slice_index words l ≡ 0) × ((y : SlotValue C) × (u : View) × AtHome y u)) ⊎ ((slice_index words l ≢ 0) × ((v : View) × (h : Hold) × IsOut v h))
 
 -- a live seat has the session
 abbrev pub OwnedBy : List View → (ℕ → ℕ) → ℕ → Type 0
@@ -101,7 +103,7 @@ machine_at terms words H = record { holder = holders terms.end words; content = 
 -- ---- the whole table
 
 -- the words are those of the latches and, last, the clock; the slots are those of the latches
-pub record Ruled {C : Type 0} (terms : Terms) (good : List Entry → ℕ → kept.Kept C → Type 0) (s : State (Option (Lain C)) View) : Type 0 where
+pub record Ruled {C : Type 0} (terms : Terms) (good : List Entry → ℕ → kept.Kept C → Type 0) (s : State (Option (SlotValue C)) View) : Type 0 where
   pub history : List Entry
   pub owner : ℕ → ℕ
   pub keeper : ℕ → ℕ
@@ -125,5 +127,6 @@ module _ {C : Type 0} (content : C → Contents) (sound : Decls → ℕ → C �
   Good p l (Fiber c) = (l < terms.end) × sound terms.world.decls l c × (content c ≡ cut terms.world.decls (fold_of terms.world p) l)
   Good p l (Journal j) = (l ≡ terms.end) × (j.entries ≡ p) × (terms.sessions * terms.calls ≤ length p + j.spare)
 
+-- the same, of any table's terms, as clauses pass it on
 abbrev pub GoodAt : {C : Type 0} → (C → Contents) → (Decls → ℕ → C → Type 0) → Terms → List Entry → ℕ → kept.Kept C → Type 0
 GoodAt content sound terms = Good content sound terms

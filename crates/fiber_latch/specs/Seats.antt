@@ -11,6 +11,7 @@ use Rattle.dt_model.specs.Tensors.{latch_count}
 use Rattle.fiber_latch.specs.declared.view.Terms.{Terms}
 use Rattle.fiber_latch.specs.declared.rule.Busy.{Busy}
 use Rattle.fiber_latch.specs.declared.rule.Kept as kept
+use Rattle.fiber_latch.specs.Made.{MadeTake, FoundHeld}
 use Rattle.fiber_latch.specs.Views.{In, Past, Touches}
 
 -- ---- the two values
@@ -26,6 +27,7 @@ pub record SeatState : Type 0 where
   pub held : List (ℕ × ℕ)
   pub met : List (ℕ × ℕ)
 
+-- a table: which one it is, and what it was opened for
 pub record TableState : Type 0 where
   pub table : TableId
   pub terms : Terms
@@ -38,11 +40,13 @@ terms_for w sessions calls = record { world = w; end = latch_count w.decls; sess
 abbrev pub IsOf : SeatState → TableState → Type 0
 IsOf s h = (s.table ≡ h.table) × (s.terms ≡ h.terms)
 
+-- the seat of all sessions, before any call
 abbrev pub first_state : TableId → Terms → SeatState
 first_state z terms = record { table = z; terms = terms; first = 1; last = terms.sessions; seen = []; held = []; met = [] }
 
 -- ---- numbers
 
+-- the entry's number where it is of session s, else the number before
 abbrev pub later_number : ℕ → ℕ → Entry → ℕ
 later_number s n e = if e.turn.session == s then e.turn.number else n
 
@@ -78,23 +82,31 @@ pub record Foreign (old : SeatState) (e : Entry) : Type 0 where
   pub session : ¬ ((old.first ≤ e.turn.session) × (e.turn.session ≤ old.last))
   pub latch : (h : ℕ × ℕ) → In h old.held → ¬ Touches old.terms h.0 e
 
--- a take: the latch is held for the session, and the value is good for the entries that are seen now
+-- a take: the latch is held for the session, the value is good for the entries that are seen now, and the machine took it
 pub record HasGot {C : Type 0} (good : Terms → List Entry → ℕ → kept.Kept C → Type 0) (l s : ℕ) (old : SeatState) (y : kept.Kept C) (new : SeatState) : Type 0 where
   pub rest : new ≡ record old { held = (l, s) ∷ old.held; seen = new.seen }
   pub grown : Past (Foreign old) old.seen new.seen
   pub fits : good old.terms new.seen l y
+  pub made : MadeTake old.terms new.seen s l
 
--- the same, after takes that may have failed
+-- what a take found that failed: the latch held by a session of the table's that is none of the seat's
+pub record IsHeldBy (n : ℕ) (old : SeatState) : Type 0 where
+  pub held : n ≢ 0
+  pub session : n ≤ old.terms.sessions
+  pub other : ¬ ((old.first ≤ n) × (n ≤ old.last))
+
+-- a take, after tries that may have failed
 pub record HasTaken {C : Type 0} (good : Terms → List Entry → ℕ → kept.Kept C → Type 0) (l s : ℕ) (old : SeatState) (y : kept.Kept C) (new : SeatState) : Type 0 where
   pub met : List (ℕ × ℕ)
+  pub tries : (p : ℕ × ℕ) → In p met → (p.0 ≡ l) × IsHeldBy p.1 old
   pub got : HasGot good l s (record old { met = old.met ++ met }) y new
 
--- a take that failed: it found this latch held by another's session, and nothing else changed
+-- a take that failed: it found this latch held by another's session, where the machine stood, and nothing else changed
 pub record IsBusy (l : ℕ) (old : SeatState) (b : Busy) (new : SeatState) : Type 0 where
   pub latch : b.latch ≡ l
-  pub held : b.holder ≢ 0
-  pub other : ¬ ((old.first ≤ b.holder) × (b.holder ≤ old.last))
+  pub holder : IsHeldBy b.holder old
   pub met : new ≡ record old { met = old.met ++ (l, b.holder) ∷ [] }
+  pub found : FoundHeld old.terms old.seen b.holder l
 
 -- ---- give
 
@@ -103,15 +115,23 @@ abbrev pub IsTop : ℕ → List (ℕ × ℕ) → Type 0
 IsTop l [] = ⊥
 IsTop l (x ∷ xs) = x.0 ≡ l
 
+-- the session for which the greatest latch is held
+abbrev pub session_of_top : List (ℕ × ℕ) → ℕ
+session_of_top [] = 0
+session_of_top (x ∷ xs) = x.1
+
+-- all but the first
 abbrev pub without_first : List (ℕ × ℕ) → List (ℕ × ℕ)
 without_first [] = []
 without_first (x ∷ xs) = xs
 
+-- the greatest latch is listed no more
 abbrev pub given : SeatState → SeatState
 given s = record s { held = without_first s.held }
 
 -- ---- join
 
+-- the entry is of none of the sessions f to t
 abbrev pub NotOf : ℕ → ℕ → Entry → Type 0
 NotOf f t e = ¬ ((f ≤ e.turn.session) × (e.turn.session ≤ t))
 

@@ -7,18 +7,21 @@ use Rattle.fiber_latch.specs.declared.view.Mark.TheVariants.{Kept}
 use Rattle.fiber_latch.specs.declared.view.Hold.{Hold}
 use Rattle.fiber_latch.specs.declared.view.Role.TheVariants.{Sessions}
 use Rattle.fiber_latch.specs.declared.view.View.{View}
-use Rattle.fiber_latch.specs.declared.rule.Lain.{Lain}
+use Rattle.fiber_latch.specs.declared.rule.SlotValue.{SlotValue}
 use Rattle.fiber_latch.specs.Views.{id_of, Lawful}
 use Rattle.fiber_latch.specs.Seats.{SeatState, last_number}
 
+-- the latches with their sessions, without the marks
 abbrev pub pairs : List Hold → List (ℕ × ℕ)
 pairs [] = []
 pairs (h ∷ hs) = (h.latch, h.session) ∷ pairs hs
 
-abbrev pub hands : {C : Type 0} → List Hold → List (ℕ × Option (Lain C))
+-- an empty slot in hand for each latch
+abbrev pub hands : {C : Type 0} → List Hold → List (ℕ × Option (SlotValue C))
 hands [] = []
 hands (h ∷ hs) = (h.latch, None) ∷ hands hs
 
+-- the seat keeps each latch
 abbrev pub AllKept : List Hold → Type 0
 AllKept [] = Unit {0}
 AllKept (h ∷ hs) = (h.mark ≡ Kept) × AllKept hs
@@ -28,7 +31,7 @@ abbrev pub state_of : TableId → ℕ → ℕ → View → SeatState
 state_of z f t v = record { table = z; terms = v.terms; first = f; last = t; seen = v.seen; held = pairs v.held; met = v.met }
 
 -- the seat has an empty slot in hand for each latch that it holds, and keeps each
-pub record Seated {C : Type 0} (z : TableId) (f t : ℕ) (me : Me (Option (Lain C)) View) : Type 0 where
+pub record Seated {C : Type 0} (z : TableId) (f t : ℕ) (me : Me (Option (SlotValue C)) View) : Type 0 where
   pub role : me.0.role ≡ Sessions f t
   pub some_session : 0 < f
   pub known : me.0.fresh ≡ false

@@ -4,7 +4,7 @@ use Rattle.atomic_table.specs.Table.{Me, Step, rest}
 use Rattle.dt_model.specs.declared.calls.Call.TheVariants.{Get}
 use Rattle.dt_model.specs.declared.calls.Entry.{Entry}
 use Rattle.fiber_latch.specs.declared.view.Mark.{Mark}
-use Rattle.fiber_latch.specs.declared.view.Mark.TheVariants.{Taken, Kept, Parted}
+use Rattle.fiber_latch.specs.declared.view.Mark.TheVariants.{Opened, Taken, Kept, Parted}
 use Rattle.fiber_latch.specs.declared.view.Hold.{Hold}
 use Rattle.fiber_latch.specs.declared.view.Role.{Role}
 use Rattle.fiber_latch.specs.declared.view.Role.TheVariants.{Spent, Pass, Sessions}
@@ -12,9 +12,10 @@ use Rattle.fiber_latch.specs.declared.view.Terms.{Terms}
 use Rattle.fiber_latch.specs.declared.view.View.{View}
 use Rattle.fiber_latch.specs.declared.view.TableName.{TableName}
 use Rattle.fiber_latch.specs.declared.rule.Kept as kept
-use Rattle.fiber_latch.specs.declared.rule.Lain.{Lain}
-use Rattle.fiber_latch.specs.Views.{id_of, OwnsAs, Lawful, hold, behind, pass_view}
+use Rattle.fiber_latch.specs.declared.rule.SlotValue.{SlotValue}
+use Rattle.fiber_latch.specs.Views.{id_of, Begins, OwnsAs, Lawful, hold, behind, pass_view}
 use Rattle.fiber_latch.specs.Rule.{OldsOk}
+use Rattle.fiber_latch.specs.Made.{MadeTake, FoundHeld, MadeCommit, MadeGive}
 
 -- ---- take and give
 
@@ -22,15 +23,24 @@ use Rattle.fiber_latch.specs.Rule.{OldsOk}
 abbrev pub listed : View → ℕ → ℕ → Mark → List Hold → View
 listed v l s m hs = record v { held = hold l s m ∷ hs }
 
--- a take tells the slot's value and pass, or the session that it found, which is none of the seat's
-abbrev pub Takes : {C : Type 0} → (Terms → List Entry → ℕ → kept.Kept C → Type 0) → Step (Option (Lain C)) → Me (Option (Lain C)) View → ℕ → Me (Option (Lain C)) View → Type 0
+-- a take tells the slot's value and pass and the machine's take, or the session that it found, which is none of the seat's
+abbrev pub Takes : {C : Type 0} → (Terms → List Entry → ℕ → kept.Kept C → Type 0) → Step (Option (SlotValue C)) → Me (Option (SlotValue C)) View → ℕ → Me (Option (SlotValue C)) View → Type 0
 Takes {C} good st me n me' =
-    (n ≡ 0 → (y : Lain C) × (u : View) × ((me' ≡ (listed me.0 st.word st.second Taken me.0.held, (st.word, Some y) ∷ me.1)) × (y.pass.views ≡ u ∷ []) × (y.pass.table_id ≡ id_of me.0.table) × (u.role ≡ Pass st.word) × good me.0.terms u.seen st.word y.kept))
-    × (n ≢ 0 → (me' ≡ (record me.0 { met = me.0.met ++ (st.word, n) ∷ [] }, me.1)) × (¬ OwnsAs me.0.role n) × (n ≤ me.0.terms.sessions))
+    (n ≡ 0 → (y : SlotValue C) × (u : View) × ((me' ≡ (listed me.0 st.word st.second Taken me.0.held, (st.word, Some y) ∷ me.1)) × (y.pass.views ≡ u ∷ []) × (y.pass.table_id ≡ id_of me.0.table) × (u.role ≡ Pass st.word) × good me.0.terms u.seen st.word y.kept × ((made : MadeTake me.0.terms me.0.seen st.second st.word) × Begins u.seen made.before.history)))
+    × (n ≢ 0 → (me' ≡ (record me.0 { met = me.0.met ++ (st.word, n) ∷ [] }, me.1)) × (¬ OwnsAs me.0.role n) × (n ≤ me.0.terms.sessions) × FoundHeld me.0.terms me.0.seen n st.word)
 
--- the latch that was taken last is listed no more
-abbrev pub Gives : {C : Type 0} → Step (Option (Lain C)) → Me (Option (Lain C)) View → ℕ → Me (Option (Lain C)) View → Type 0
-Gives st me n me' = me' ≡ (record me.0 { held = behind me.0.held }, rest me.1)
+-- the latch that was taken last
+abbrev pub head_hold : List Hold → Hold
+head_hold [] = hold 0 0 Opened
+head_hold (h ∷ hs) = h
+
+-- the session for which the latch that was taken last is held
+abbrev pub top_session : View → ℕ
+top_session v = (head_hold v.held).session
+
+-- the latch that was taken last is listed no more, and the machine gave it back
+abbrev pub Gives : {C : Type 0} → Step (Option (SlotValue C)) → Me (Option (SlotValue C)) View → ℕ → Me (Option (SlotValue C)) View → Type 0
+Gives st me n me' = (me' ≡ (record me.0 { held = behind me.0.held }, rest me.1)) × MadeGive me.0.terms me.0.seen (top_session me.0) st.word
 
 -- ---- meet, part and look
 
@@ -50,12 +60,14 @@ abbrev pub met_pass : View → View → View
 met_pass v u = record v { held = retop Kept v.held; seen = longer v.seen u.seen; olds = Some (record { mine = v.seen; was = v.role; theirs = u.seen; other = u.role }) }
 
 -- a look at the clock tells what the last join met, and that what was seen is legal
-abbrev pub Looks : {C : Type 0} → Step (Option (Lain C)) → Me (Option (Lain C)) View → ℕ → Me (Option (Lain C)) View → Type 0
+abbrev pub Looks : {C : Type 0} → Step (Option (SlotValue C)) → Me (Option (SlotValue C)) View → ℕ → Me (Option (SlotValue C)) View → Type 0
 Looks st me n me' = (me' ≡ (record me.0 { olds = None }, me.1)) × (OldsOk me.0.terms me.0 me.0.olds × Lawful me.0.terms me.0.seen)
 
+-- nothing is left to be told of the last join
 abbrev pub settled : View → View
 settled v = record v { olds = None }
 
+-- the number of the latch that was taken last
 abbrev pub top_latch : List Hold → ℕ
 top_latch [] = 0
 top_latch (h ∷ hs) = h.latch
@@ -64,25 +76,29 @@ top_latch (h ∷ hs) = h.latch
 abbrev pub parted : View → View
 parted v = record v { held = retop (Parted v.seen) v.held }
 
+-- the pass that a seat parts with: of the latch that was taken last, with what the seat has seen
 abbrev pub new_pass : View → View
 new_pass v = pass_view v.table v.terms (top_latch v.held) v.seen
 
 -- ---- commit
 
--- one entry more is seen
-abbrev pub Commits : {C : Type 0} → Entry → Step (Option (Lain C)) → Me (Option (Lain C)) View → ℕ → Me (Option (Lain C)) View → Type 0
-Commits e st me n me' = me' ≡ (record me.0 { seen = me.0.seen ++ e ∷ [] }, me.1)
+-- one entry more is seen, and the machine committed it
+abbrev pub Commits : {C : Type 0} → Entry → Step (Option (SlotValue C)) → Me (Option (SlotValue C)) View → ℕ → Me (Option (SlotValue C)) View → Type 0
+Commits e st me n me' = (me' ≡ (record me.0 { seen = me.0.seen ++ e ∷ [] }, me.1)) × MadeCommit me.0.terms me.0.seen e
 
+-- an entry that is asked for nowhere, to stand where none is picked
 abbrev pub no_entry : Entry
 no_entry = record { turn = record { session = 0; number = 0 }; call = Get (record { tensor = 0; at = [] }) }
 
 -- ---- seats of sessions are cut and joined
 
+-- the sessions below a
 abbrev pub low_part : ℕ → Role → Role
 low_part a Spent = Spent
 low_part a (Pass w) = Pass w
 low_part a (Sessions f t) = Sessions f (a - 1)
 
+-- the sessions from a on
 abbrev pub high_part : ℕ → Role → Role
 high_part a Spent = Spent
 high_part a (Pass w) = Pass w
@@ -92,9 +108,11 @@ high_part a (Sessions f t) = Sessions a t
 abbrev pub lower : ℕ → View → View
 lower a v = record v { role = low_part a v.role }
 
+-- the new seat has them, has seen the same, and holds nothing
 abbrev pub upper : ℕ → View → View
 upper a v = record v { role = high_part a v.role; held = []; met = []; olds = None }
 
+-- the sessions of both, where the second follow the first
 abbrev pub joined_role : Role → Role → Role
 joined_role (Sessions f t) (Sessions g u) = Sessions f u
 joined_role r q = r
@@ -105,18 +123,20 @@ joined v u = record v { role = joined_role v.role u.role; seen = longer v.seen u
 
 -- ---- opening
 
+-- the latch is kept, where this is true
 abbrev pub keep_if : Bool → Hold → Hold
 keep_if true h = hold h.latch h.session Kept
 keep_if false h = h
 
+-- latch l is kept, and each other latch has the mark it had
 abbrev pub keep_at : ℕ → List Hold → List Hold
 keep_at l [] = []
 keep_at l (h ∷ hs) = keep_if (h.latch == l) h ∷ keep_at l hs
 
 -- the empty slot of a latch that was opened comes into the seat's hand
-abbrev pub Opens : {C : Type 0} → Step (Option (Lain C)) → Me (Option (Lain C)) View → ℕ → Me (Option (Lain C)) View → Type 0
+abbrev pub Opens : {C : Type 0} → Step (Option (SlotValue C)) → Me (Option (SlotValue C)) View → ℕ → Me (Option (SlotValue C)) View → Type 0
 Opens st me n me' = me' ≡ (record me.0 { held = keep_at st.word me.0.held }, (st.word, None) ∷ me.1)
 
 -- the first seat learns which table it is
-abbrev pub Learns : {C : Type 0} → TableName → Step (Option (Lain C)) → Me (Option (Lain C)) View → ℕ → Me (Option (Lain C)) View → Type 0
+abbrev pub Learns : {C : Type 0} → TableName → Step (Option (SlotValue C)) → Me (Option (SlotValue C)) View → ℕ → Me (Option (SlotValue C)) View → Type 0
 Learns z st me n me' = me' ≡ (record me.0 { fresh = false; table = z }, me.1)

@@ -15,17 +15,21 @@ use Rattle.fiber_latch.specs.declared.view.TableName.{TableName}
 
 -- ---- names of tables
 
+-- the table of this name
 abbrev pub id_of : TableName → TableId
 id_of t = record { words = t.words; slots = t.slots; views_name = t.views_name; atom = t.atom; block = t.block; offset = t.offset; slot_names = t.slot_names }
 
+-- the name of a table
 abbrev pub name_of : TableId → TableName
 name_of t = record { words = t.words; slots = t.slots; views_name = t.views_name; atom = t.atom; block = t.block; offset = t.offset; slot_names = t.slot_names }
 
+-- the name of no table, before a seat has learned which it is
 abbrev pub no_name : TableName
 no_name = record { words = 0; slots = 0; views_name = 0; atom = 0; block = 0; offset = 0; slot_names = [] }
 
 -- ---- lists
 
+-- the value is an element of the list
 abbrev pub In : {A : Type 0} → A → List A → Type 0
 In a [] = ⊥
 In a (x ∷ xs) = (a ≡ x) ⊎ In a xs
@@ -33,6 +37,10 @@ In a (x ∷ xs) = (a ≡ x) ⊎ In a xs
 -- H is seen with some entries behind it, of each of which P holds
 abbrev pub Past : (Entry → Type 0) → List Entry → List Entry → Type 0
 Past P seen H = (past : List Entry) × (H ≡ seen ++ past) × ((e : Entry) → In e past → P e)
+
+-- H begins with what is seen
+abbrev pub Begins : List Entry → List Entry → Type 0
+Begins seen H = (past : List Entry) × (H ≡ seen ++ past)
 
 -- ---- entries
 
@@ -52,11 +60,13 @@ OwnsAs Spent s = ⊥
 OwnsAs (Pass w) s = ⊥
 OwnsAs (Sessions f t) s = (f ≤ s) × (s ≤ t)
 
+-- the view is of a seat of sessions
 abbrev pub IsSession : Role → Type 0
 IsSession Spent = ⊥
 IsSession (Pass w) = ⊥
 IsSession (Sessions f t) = Unit {0}
 
+-- the view is of a seat or a pass that was not joined into another
 abbrev pub Live : Role → Type 0
 Live Spent = ⊥
 Live (Pass w) = Unit {0}
@@ -82,9 +92,11 @@ Marks K Spent hs l = ⊥
 Marks K (Pass w) hs l = w ≡ l
 Marks K (Sessions f t) hs l = (h : Hold) × In h hs × (h.latch ≡ l) × K h.mark
 
+-- the seat or the pass keeps the latch
 abbrev pub Keeps : View → ℕ → Type 0
 Keeps v l = Marks Keeping v.role v.held l
 
+-- the seat or the pass has seen all that touches the latch
 abbrev pub Knows : View → ℕ → Type 0
 Knows v l = Marks Knowing v.role v.held l
 
@@ -98,18 +110,22 @@ abbrev pub Falls : List Hold → Type 0
 Falls [] = Unit {0}
 Falls (h ∷ hs) = ((g : Hold) → In g hs → g.latch < h.latch) × Falls hs
 
+-- latch l for session s, with mark m
 abbrev pub hold : ℕ → ℕ → Mark → Hold
 hold l s m = record { latch = l; session = s; mark = m }
 
+-- the latch is above each that is listed
 abbrev pub Above : ℕ → List Hold → Type 0
 Above l hs = (h : Hold) → In h hs → h.latch < l
 
+-- all but the first
 abbrev pub behind : {A : Type 0} → List A → List A
 behind [] = []
 behind (x ∷ xs) = xs
 
 -- ---- views
 
+-- the terms of no table
 abbrev pub no_terms : Terms
 no_terms = record { world = record { decls = record { schemas = []; tensors = [] }; base = []; scripts = [] }; end = 0; sessions = 0; calls = 0 }
 

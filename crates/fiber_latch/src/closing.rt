@@ -4,11 +4,11 @@ ghost use Rattle.std.specs.Option.{option_copied};
 ghost use Rattle.std.specs.Mem.Slots.{slots_items, slots_filled, slots_len, IsFull};
 ghost use Rattle.dt_model.specs.JournalValue.{JournalValue};
 ghost use Rattle.fiber_latch.specs.declared.rule.Kept.TheVariants as held;
-ghost use Rattle.fiber_latch.specs.declared.rule.Lain.{Lain};
+ghost use Rattle.fiber_latch.specs.declared.rule.SlotValue.{SlotValue};
 ghost use Rattle.fiber_latch.specs.Leaving.{HasValue, HasAll, TakenOut};
 
-use crate::rule::{Kept, Lain};
-use atomic_table::Closed as Opened;
+use crate::rule::{Kept, SlotValue};
+use atomic_table::Closed as ClosedTable;
 use dt_model::Journal;
 use std::alloc::Global;
 
@@ -35,21 +35,21 @@ impl<C> Closed<C> {
     }
 }
 
-type Emptied<C> = Opened<Option<Lain<C>>, Global>;
+type Emptied<C> = ClosedTable<Option<SlotValue<C>>, Global>;
 
-fn value_in<C: Drop>(slot: Option<Lain<C>>) -> Kept<C>
-    requires held { (z : Lain C) × (slot ≡ Some z) }
-    ensures value { (z : Lain C) × (slot ≡ Some z) × (z.kept ≡ result) }
+fn value_in<C: Drop>(slot: Option<SlotValue<C>>) -> Kept<C>
+    requires held { (z : SlotValue C) × (slot ≡ Some z) }
+    ensures value { (z : SlotValue C) × (slot ≡ Some z) × (z.kept ≡ result) }
 {
-    let Some(lain) = slot else { unreachable!() };
-    let Lain { kept, pass } = lain;
+    let Some(filled) = slot else { unreachable!() };
+    let SlotValue { kept, pass } = filled;
     drop(pass);
     kept
 }
 
-fn store_in<C: Drop>(slot: Option<Lain<C>>) -> C
-    requires held { (z : Lain C) × (c : C) × (slot ≡ Some z) × (z.kept ≡ held.Fiber c) }
-    ensures value { (z : Lain C) × (slot ≡ Some z) × (z.kept ≡ held.Fiber result) }
+fn store_in<C: Drop>(slot: Option<SlotValue<C>>) -> C
+    requires held { (z : SlotValue C) × (c : C) × (slot ≡ Some z) × (z.kept ≡ held.Fiber c) }
+    ensures value { (z : SlotValue C) × (slot ≡ Some z) × (z.kept ≡ held.Fiber result) }
 {
     let Kept::Fiber(store) = value_in(slot) else {
         unreachable!()
@@ -57,9 +57,9 @@ fn store_in<C: Drop>(slot: Option<Lain<C>>) -> C
     store
 }
 
-fn journal_in<C: Drop>(slot: Option<Lain<C>>) -> Journal
-    requires held { (z : Lain C) × (j : JournalValue) × (slot ≡ Some z) × (z.kept ≡ held.Journal j) }
-    ensures value { (z : Lain C) × (slot ≡ Some z) × (z.kept ≡ held.Journal result) }
+fn journal_in<C: Drop>(slot: Option<SlotValue<C>>) -> Journal
+    requires held { (z : SlotValue C) × (j : JournalValue) × (slot ≡ Some z) × (z.kept ≡ held.Journal j) }
+    ensures value { (z : SlotValue C) × (slot ≡ Some z) × (z.kept ≡ held.Journal result) }
 {
     let Kept::Journal(journal) = value_in(slot) else {
         unreachable!()

@@ -6,11 +6,12 @@ ghost use Rattle.dt_model.specs.Runs.{IsLegal};
 ghost use Rattle.dt_model.specs.Worlds.{IsValid};
 ghost use Rattle.fiber_latch.specs.Views.{In};
 ghost use Rattle.fiber_latch.specs.Rule.{GoodAt};
-ghost use Rattle.fiber_latch.specs.Seats.{IsOf, Tops, HasGot, HasTaken, HasJoined, IsBusy, IsTop, given, first_state, terms_for, last_number, IsJournal, AreStores};
+ghost use Rattle.fiber_latch.specs.Made.{MadeCommit, MadeGive};
+ghost use Rattle.fiber_latch.specs.Seats.{IsOf, Tops, HasGot, HasTaken, HasJoined, IsBusy, IsTop, session_of_top, given, first_state, terms_for, last_number, IsJournal, AreStores};
 
 use crate::closing::{Closed, emptied};
-use crate::raw::Place;
-use crate::rule::{About, Busy, Free, Kept, Lain};
+use crate::raw::TableSeat;
+use crate::rule::{Busy, Kept, LatchRule, SlotValue, TableKey};
 use crate::view::View;
 use crate::{opening, raw};
 use atomic_table::Table;
@@ -22,7 +23,7 @@ use std::sync::Wait;
 /// A table of latches: one for each fiber, in order of latches, and the journal's behind them.
 #[derive(Drop)]
 pub struct Latches<C: Keep> {
-    table: Table<Option<Lain<C>>, View, About, Free<C>, Global>,
+    table: Table<Option<SlotValue<C>>, View, TableKey, LatchRule<C>, Global>,
     end: u32,
     // The vector that the stores came in, kept for its room.
     room: Vec<C>,
@@ -46,7 +47,7 @@ impl<C: Keep> Model for Latches<C> {
 /// The right to make the calls of some sessions, which follow one another.
 #[derive(Drop)]
 pub struct Seat<C: Keep> {
-    place: Place<C>,
+    place: TableSeat<C>,
     first: u32,
     last: u32,
     // Of session s at s - 1.
@@ -139,7 +140,8 @@ impl<C: Keep> Latches<C> {
         )
     }
 
-    /// The same, and waits where another session holds the latch.
+    /// Takes a latch for one of the seat's sessions, and waits while another seat's session holds it: it sleeps on the
+    /// latch's word until a give wakes it, and tries again. Latches are taken in ascending order, the journal's last.
     pub fn take<R: Wait>(&self, rt: &R, seat: &mut Seat<C>, session: u32, latch: u32) -> Kept<C>
         requires table { IsOf seat.old self.now }
         requires session { (seat.old.first ≤ session) × (session ≤ seat.old.last) }
@@ -164,6 +166,7 @@ impl<C: Keep> Latches<C> {
         requires held { (l : ℕ) → IsTrue (commit_needs self.now.terms.world.decls entry.call l) → In (l, entry.turn.session) seat.old.held }
         requires number { (last_number entry.turn.session seat.old.seen < entry.turn.number) × (entry.turn.number ≤ self.now.terms.calls) }
         requires journal { IsJournal self.now.terms seat.old.seen journal.old }
+        ensures machine { MadeCommit seat.old.terms seat.old.seen entry }
         ensures seat { seat.new ≡ record seat.old { seen = seat.old.seen ++ entry ∷ [] } }
         ensures journal { IsJournal self.now.terms seat.new.seen journal.new }
     {
@@ -179,6 +182,7 @@ impl<C: Keep> Latches<C> {
         requires table { IsOf seat.old self.now }
         requires latch { IsTop latch seat.old.held }
         requires value { GoodAt C.content C.sound seat.old.terms seat.old.seen latch kept }
+        ensures machine { MadeGive seat.old.terms seat.old.seen (session_of_top seat.old.held) latch }
         ensures seat { seat.new ≡ given seat.old }
     {
         raw::give(&self.table.shared, &mut seat.place, latch as usize, kept);

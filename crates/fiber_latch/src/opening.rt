@@ -6,8 +6,8 @@ ghost use Rattle.fiber_latch.specs.Latch.{IsSized, terms_of, first_view, id_of, 
 
 use crate::plays::{LearnStep, Named, OpenStep};
 use crate::raw;
-use crate::raw::{Place, Top};
-use crate::rule::{About, Free, Kept, Lain};
+use crate::raw::{SharedTable, TableSeat};
+use crate::rule::{Kept, LatchRule, SlotValue, TableKey};
 use crate::view::View;
 use atomic_table::Table;
 use dt_model::{Journal, Keep, NoMemory, World};
@@ -15,7 +15,7 @@ use std::alloc::{AllocError, Global};
 use std::marker::Brand;
 use std::snapshot::Snapshot;
 
-pub type Board<C> = Table<Option<Lain<C>>, View, About, Free<C>, Global>;
+pub type LatchTable<C> = Table<Option<SlotValue<C>>, View, TableKey, LatchRule<C>, Global>;
 
 // The words: 1 for each latch, since session 1 holds each, and the clock's 0.
 fn words(alloc: Global, end: u32) -> Result<Vec<u64>, AllocError>
@@ -37,23 +37,23 @@ fn bare<C: Keep>(
     end: u32,
     sessions: u32,
     calls: u32,
-) -> Result<(Board<C>, Place<C>), AllocError>
+) -> Result<(LatchTable<C>, TableSeat<C>), AllocError>
     requires counts { (end < 4294967295) × (0 < sessions) × (sessions ≤ 16) × (calls ≤ 65536) }
     requires latches { end ≡ latch_count world.now.decls }
     ensures ok { IfOk result (λ r. IsSized r.0.shared.table_id r.0.shared.key × (terms_of r.0.shared.key ≡ terms_for world.now sessions calls) × (r.1.table_id ≡ r.0.shared.table_id) × (r.1.me ≡ (first_view (terms_of r.0.shared.key), []))) }
 {
     let words = words(alloc, end)?;
-    let about = About {
+    let key = TableKey {
         world: Snapshot::of(world),
         end: end as u64,
         sessions: sessions as u64,
         calls: calls as u64,
     };
-    let (table, place) = Table::vacant(alloc, words.as_slice(), end as usize + 1, &about)?;
+    let (table, place) = Table::vacant(alloc, words.as_slice(), end as usize + 1, &key)?;
     Ok((table, place))
 }
 
-fn learn_as<C: Keep, Q: Named>(top: &Top<C>, place: &mut Place<C>)
+fn learn_as<C: Keep, Q: Named>(top: &SharedTable<C>, place: &mut TableSeat<C>)
     requires table { (place.old.table_id ≡ top.now.table_id) × IsSized top.now.table_id top.now.key }
     requires ready { place.old.me ≡ (first_view (terms_of top.now.key), []) }
     ensures same { place.new.table_id ≡ place.old.table_id }
@@ -63,7 +63,7 @@ fn learn_as<C: Keep, Q: Named>(top: &Top<C>, place: &mut Place<C>)
 }
 
 // The first seat learns which table it is.
-fn learn<C: Keep>(top: &Top<C>, place: &mut Place<C>)
+fn learn<C: Keep>(top: &SharedTable<C>, place: &mut TableSeat<C>)
     requires table { (place.old.table_id ≡ top.now.table_id) × IsSized top.now.table_id top.now.key }
     requires ready { place.old.me ≡ (first_view (terms_of top.now.key), []) }
     ensures same { place.new.table_id ≡ place.old.table_id }
@@ -73,7 +73,7 @@ fn learn<C: Keep>(top: &Top<C>, place: &mut Place<C>)
 }
 
 // Takes each empty slot, in ascending order.
-fn take_out<C: Keep>(top: &Top<C>, place: &mut Place<C>, end: u32)
+fn take_out<C: Keep>(top: &SharedTable<C>, place: &mut TableSeat<C>, end: u32)
     requires table { (place.old.table_id ≡ top.now.table_id) × IsSized top.now.table_id top.now.key × (end ≡ top.now.key.end) × (end < 4294967295) }
     requires ready { Opening place.old.me.0 (terms_of top.now.key) × (place.old.me ≡ (holding place.old.me.0 (half 0 end), [])) }
     ensures same { place.new.table_id ≡ place.old.table_id }
@@ -85,7 +85,12 @@ fn take_out<C: Keep>(top: &Top<C>, place: &mut Place<C>, end: u32)
 }
 
 // Gives back each fiber's latch with its store, in descending order. The emptied vector comes back.
-fn give_fibers<C: Keep>(top: &Top<C>, place: &mut Place<C>, end: u32, mut stores: Vec<C>) -> Vec<C>
+fn give_fibers<C: Keep>(
+    top: &SharedTable<C>,
+    place: &mut TableSeat<C>,
+    end: u32,
+    mut stores: Vec<C>,
+) -> Vec<C>
     requires table { (place.old.table_id ≡ top.now.table_id) × IsSized top.now.table_id top.now.key × (end ≡ top.now.key.end) × (id_of place.old.me.0.table ≡ top.now.table_id) }
     requires ready { Opening place.old.me.0 (terms_of top.now.key) × (place.old.me ≡ (holding place.old.me.0 (kept_to end), hand_to end)) }
     requires stores { AreStores C.content C.sound (terms_of top.now.key) place.old.me.0.seen stores.items }
@@ -101,8 +106,8 @@ fn give_fibers<C: Keep>(top: &Top<C>, place: &mut Place<C>, end: u32, mut stores
 
 // Gives back each latch with its value, the journal's first.
 fn give_back<C: Keep>(
-    top: &Top<C>,
-    place: &mut Place<C>,
+    top: &SharedTable<C>,
+    place: &mut TableSeat<C>,
     end: u32,
     journal: Journal,
     stores: Vec<C>,
@@ -127,7 +132,7 @@ pub fn opened<C: Keep>(
     end: u32,
     sessions: u32,
     calls: u32,
-) -> Result<(Board<C>, Place<C>, Vec<C>), NoMemory>
+) -> Result<(LatchTable<C>, TableSeat<C>, Vec<C>), NoMemory>
     requires counts { (end < 4294967295) × (0 < sessions) × (sessions ≤ 16) × (calls ≤ 65536) }
     requires latches { end ≡ latch_count world.now.decls }
     requires stores { AreStores C.content C.sound (terms_for world.now sessions calls) [] stores.items }

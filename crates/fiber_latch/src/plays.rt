@@ -1,5 +1,5 @@
 //! What each step tells.
-use crate::rule::Lain;
+use crate::rule::SlotValue;
 use crate::view::View;
 use atomic_table::{Join, Play, Split};
 use dt_model::Keep;
@@ -7,7 +7,7 @@ use std::marker::{Brand, PhantomData};
 
 pub struct TakeStep;
 
-impl<C: Keep> Play<Option<Lain<C>>, View> for TakeStep {
+impl<C: Keep> Play<Option<SlotValue<C>>, View> for TakeStep {
     ghost use Rattle.fiber_latch.specs.Latch.{Takes, GoodAt};
 
     ghost then = { Takes (GoodAt C.content C.sound) };
@@ -15,7 +15,7 @@ impl<C: Keep> Play<Option<Lain<C>>, View> for TakeStep {
 
 pub struct GiveStep;
 
-impl<C: Keep> Play<Option<Lain<C>>, View> for GiveStep {
+impl<C: Keep> Play<Option<SlotValue<C>>, View> for GiveStep {
     ghost use Rattle.fiber_latch.specs.Latch.{Gives};
 
     ghost then = { Gives };
@@ -23,7 +23,7 @@ impl<C: Keep> Play<Option<Lain<C>>, View> for GiveStep {
 
 pub struct LookStep;
 
-impl<C: Keep> Play<Option<Lain<C>>, View> for LookStep {
+impl<C: Keep> Play<Option<SlotValue<C>>, View> for LookStep {
     ghost use Rattle.fiber_latch.specs.Latch.{Looks};
 
     ghost then = { Looks };
@@ -66,20 +66,20 @@ pub struct CommitStep<Q> {
     asked: PhantomData<Q>,
 }
 
-impl<C: Keep, Q: Asked> Play<Option<Lain<C>>, View> for CommitStep<Q> {
+impl<C: Keep, Q: Asked> Play<Option<SlotValue<C>>, View> for CommitStep<Q> {
     ghost use Rattle.fiber_latch.specs.Latch.{Commits};
 
     ghost then = { Commits Q.entry };
 }
 
 /// The first session of the upper part. Each call picks it.
-pub trait Place {
+pub trait SplitPoint {
     ghost use Rattle.std.specs.Prelude.{ℕ};
 
     ghost at: { ℕ };
 }
 
-impl Place for Brand {
+impl SplitPoint for Brand {
     ghost at = { 0 };
 }
 
@@ -87,7 +87,7 @@ pub struct SplitAt<Q> {
     place: PhantomData<Q>,
 }
 
-impl<Q: Place> Split<View> for SplitAt<Q> {
+impl<Q: SplitPoint> Split<View> for SplitAt<Q> {
     ghost use Rattle.fiber_latch.specs.Latch.{lower, upper};
 
     ghost left = { lower Q.at };
@@ -122,7 +122,7 @@ pub struct LearnStep<Q> {
     named: PhantomData<Q>,
 }
 
-impl<C: Keep, Q: Named> Play<Option<Lain<C>>, View> for LearnStep<Q> {
+impl<C: Keep, Q: Named> Play<Option<SlotValue<C>>, View> for LearnStep<Q> {
     ghost use Rattle.fiber_latch.specs.Latch.{Learns};
 
     ghost then = { Learns Q.name };
@@ -130,7 +130,7 @@ impl<C: Keep, Q: Named> Play<Option<Lain<C>>, View> for LearnStep<Q> {
 
 pub struct OpenStep;
 
-impl<C: Keep> Play<Option<Lain<C>>, View> for OpenStep {
+impl<C: Keep> Play<Option<SlotValue<C>>, View> for OpenStep {
     ghost use Rattle.fiber_latch.specs.Latch.{Opens};
 
     ghost then = { Opens };

@@ -2,24 +2,31 @@
 ghost use Rattle.std.specs.Prelude.{◌≡◌, ◌≢◌, ◌⊎◌, ℕ, ◌+◌, ◌<◌, ◌≤◌, List, [], ◌∷◌, ◌++◌, None, Some, IfOk, IfErr};
 ghost use mathlib.Core.Option.{none};
 ghost use Rattle.atomic_table.specs.Table.{step, rest};
-ghost use Rattle.fiber_latch.specs.Latch.{Takes, GoodAt, MayTake, IsSized, the_view, CanMeet, settled, met_pass, OldsOk, Took, id_of, CanGive, CanCommit, OwnsAs, IsIdle, lower, upper, joined, Lawful, behind, terms_of};
-ghost use Rattle.fiber_latch.specs.declared.rule.Lain.{Lain};
+ghost use Rattle.fiber_latch.specs.Latch.{Takes, GoodAt, MayTake, IsSized, the_view, CanMeet, settled, met_pass, OldsOk, Took, FoundHeld, MadeCommit, MadeGive, id_of, CanGive, CanCommit, OwnsAs, IsIdle, lower, upper, joined, Lawful, behind, terms_of, top_session};
+ghost use Rattle.fiber_latch.specs.declared.rule.SlotValue.{SlotValue};
 
 use crate::plays;
 use crate::plays::{
     Asked, CommitStep, GiveStep, JoinSeats, LookStep, Meet, Part, SplitAt, TakeStep,
 };
-use crate::rule::{About, Busy, Free, Kept, Lain};
+use crate::rule::{Busy, Kept, LatchRule, SlotValue, TableKey};
 use crate::view::View;
 use atomic_table::{Badge, Shared};
 use dt_model::{Entry, Keep};
 use std::marker::Brand;
 
-pub type Top<C> = Shared<Option<Lain<C>>, View, About, Free<C>>;
+/// The table, as each of its seats uses it.
+pub type SharedTable<C> = Shared<Option<SlotValue<C>>, View, TableKey, LatchRule<C>>;
 
-pub type Place<C> = atomic_table::Seat<Option<Lain<C>>, View>;
+/// A seat of sessions, or a pass that is used as one.
+pub type TableSeat<C> = atomic_table::Seat<Option<SlotValue<C>>, View>;
 
-pub fn take_step<C: Keep>(top: &Top<C>, place: &mut Place<C>, latch: usize, session: u64) -> u64
+pub fn take_step<C: Keep>(
+    top: &SharedTable<C>,
+    place: &mut TableSeat<C>,
+    latch: usize,
+    session: u64,
+) -> u64
     requires table { (place.old.table_id ≡ top.now.table_id) × IsSized top.now.table_id top.now.key × (place.old.me.0.terms ≡ terms_of top.now.key) }
     requires ready { MayTake place.old.me.0 session latch }
     ensures same { (place.new.table_id ≡ place.old.table_id) × (place.new.id ≡ place.old.id) }
@@ -29,9 +36,9 @@ pub fn take_step<C: Keep>(top: &Top<C>, place: &mut Place<C>, latch: usize, sess
 }
 
 /// Takes out what lies in the slot that was taken last.
-pub fn lift<C: Keep>(top: &Top<C>, place: &mut Place<C>, latch: usize) -> Lain<C>
+pub fn lift<C: Keep>(top: &SharedTable<C>, place: &mut TableSeat<C>, latch: usize) -> SlotValue<C>
     requires table { place.old.table_id ≡ top.now.table_id }
-    requires lies { (y : Lain C) × (place.old.me.1 ≡ (latch, Some y) ∷ rest place.old.me.1) }
+    requires lies { (y : SlotValue C) × (place.old.me.1 ≡ (latch, Some y) ∷ rest place.old.me.1) }
     ensures same { (place.new.table_id ≡ place.old.table_id) × (place.new.id ≡ place.old.id) }
     ensures was { place.old.me.1 ≡ (latch, Some result) ∷ rest place.old.me.1 }
     ensures me { place.new.me ≡ (place.old.me.0, (latch, None) ∷ rest place.old.me.1) }
@@ -41,8 +48,8 @@ pub fn lift<C: Keep>(top: &Top<C>, place: &mut Place<C>, latch: usize) -> Lain<C
 
 /// Takes in the pass of the latch that was taken last.
 pub fn meet<C: Keep>(
-    top: &Top<C>,
-    place: &mut Place<C>,
+    top: &SharedTable<C>,
+    place: &mut TableSeat<C>,
     end: usize,
     latch: usize,
     session: u64,
@@ -62,8 +69,8 @@ pub fn meet<C: Keep>(
 
 /// Takes a latch, or answers the session that holds it.
 pub fn try_take<C: Keep>(
-    top: &Top<C>,
-    place: &mut Place<C>,
+    top: &SharedTable<C>,
+    place: &mut TableSeat<C>,
     end: u32,
     latch: u32,
     session: u32,
@@ -72,6 +79,7 @@ pub fn try_take<C: Keep>(
     requires ready { MayTake place.old.me.0 session latch }
     ensures same { (place.new.table_id ≡ place.old.table_id) × (place.new.id ≡ place.old.id) }
     ensures busy { IfErr result (λ b. (b.latch ≡ latch) × (b.holder ≢ 0) × ¬ OwnsAs place.old.me.0.role b.holder × (place.new.me ≡ (record place.old.me.0 { met = place.old.me.0.met ++ (latch, b.holder) ∷ [] }, place.old.me.1))) }
+    ensures found { IfErr result (λ b. (b.holder ≤ place.old.me.0.terms.sessions) × FoundHeld place.old.me.0.terms place.old.me.0.seen b.holder latch) }
     ensures ok { IfOk result (λ y. Took (GoodAt C.content C.sound) latch session place.old.me y place.new.me) }
 {
     let found = take_step(top, place, latch as usize, session as u64);
@@ -81,7 +89,7 @@ pub fn try_take<C: Keep>(
             holder: found as u32,
         });
     }
-    let Lain { kept, pass } = lift(top, place, latch as usize);
+    let SlotValue { kept, pass } = lift(top, place, latch as usize);
     meet(
         top,
         place,
@@ -94,55 +102,63 @@ pub fn try_take<C: Keep>(
 }
 
 /// Lays a value and its pass into the empty slot that was taken last.
-pub fn lay<C: Keep>(top: &Top<C>, place: &mut Place<C>, latch: usize, lain: Lain<C>)
+pub fn lay<C: Keep>(
+    top: &SharedTable<C>,
+    place: &mut TableSeat<C>,
+    latch: usize,
+    laid: SlotValue<C>,
+)
     requires table { place.old.table_id ≡ top.now.table_id }
     requires hand { place.old.me.1 ≡ (latch, None) ∷ rest place.old.me.1 }
     ensures same { (place.new.table_id ≡ place.old.table_id) × (place.new.id ≡ place.old.id) }
-    ensures me { place.new.me ≡ (place.old.me.0, (latch, Some lain) ∷ rest place.old.me.1) }
+    ensures me { place.new.me ≡ (place.old.me.0, (latch, Some laid) ∷ rest place.old.me.1) }
 {
-    top.exchange(place, latch, Some(lain));
+    top.exchange(place, latch, Some(laid));
 }
 
 /// Gives back the greatest latch that the seat holds.
-pub fn give<C: Keep>(top: &Top<C>, place: &mut Place<C>, latch: usize, kept: Kept<C>)
+pub fn give<C: Keep>(top: &SharedTable<C>, place: &mut TableSeat<C>, latch: usize, kept: Kept<C>)
     requires table { (place.old.table_id ≡ top.now.table_id) × IsSized top.now.table_id top.now.key × (place.old.me.0.terms ≡ terms_of top.now.key) × (id_of place.old.me.0.table ≡ top.now.table_id) × (latch ≤ top.now.key.end) }
     requires ready { CanGive (GoodAt C.content C.sound) place.old.me latch kept }
     ensures same { (place.new.table_id ≡ place.old.table_id) × (place.new.id ≡ place.old.id) }
     ensures me { place.new.me ≡ (record place.old.me.0 { held = behind place.old.me.0.held }, rest place.old.me.1) }
+    ensures machine { MadeGive place.old.me.0.terms place.old.me.0.seen (top_session place.old.me.0) latch }
 {
     let pass = top.split_seat::<Part>(place);
     let pass = pass.into_badge();
-    lay(top, place, latch, Lain { kept, pass });
+    lay(top, place, latch, SlotValue { kept, pass });
     top.swap::<GiveStep>(place, latch, 0);
 }
 
-fn tick<C: Keep, Q: Asked>(top: &Top<C>, place: &mut Place<C>, end: u32, entry: &Entry)
+fn tick<C: Keep, Q: Asked>(top: &SharedTable<C>, place: &mut TableSeat<C>, end: u32, entry: &Entry)
     requires table { (place.old.table_id ≡ top.now.table_id) × IsSized top.now.table_id top.now.key × (place.old.me.0.terms ≡ terms_of top.now.key) × (end ≡ top.now.key.end) }
     requires entry { entry.now ≡ Q.entry }
     requires ready { CanCommit (terms_of top.now.key) place.old.me.0 entry.now }
     ensures same { (place.new.table_id ≡ place.old.table_id) × (place.new.id ≡ place.old.id) }
     ensures me { place.new.me ≡ (record place.old.me.0 { seen = place.old.me.0.seen ++ entry.now ∷ [] }, place.old.me.1) }
+    ensures machine { MadeCommit place.old.me.0.terms place.old.me.0.seen entry.now }
 {
     top.fetch_add::<CommitStep<Q>>(place, end as usize + 1, 1);
 }
 
 /// Adds an entry to the history.
-pub fn commit<C: Keep>(top: &Top<C>, place: &mut Place<C>, end: u32, entry: &Entry)
+pub fn commit<C: Keep>(top: &SharedTable<C>, place: &mut TableSeat<C>, end: u32, entry: &Entry)
     requires table { (place.old.table_id ≡ top.now.table_id) × IsSized top.now.table_id top.now.key × (place.old.me.0.terms ≡ terms_of top.now.key) × (end ≡ top.now.key.end) }
     requires ready { CanCommit (terms_of top.now.key) place.old.me.0 entry.now }
     ensures same { (place.new.table_id ≡ place.old.table_id) × (place.new.id ≡ place.old.id) }
     ensures me { place.new.me ≡ (record place.old.me.0 { seen = place.old.me.0.seen ++ entry.now ∷ [] }, place.old.me.1) }
+    ensures machine { MadeCommit place.old.me.0.terms place.old.me.0.seen entry.now }
 {
     tick::<C, Brand>(top, place, end, entry);
 }
 
-fn split_as<C: Keep, Q: plays::Place>(
-    top: &Top<C>,
-    place: &mut Place<C>,
+fn split_as<C: Keep, Q: plays::SplitPoint>(
+    top: &SharedTable<C>,
+    place: &mut TableSeat<C>,
     first: u32,
     last: u32,
     at: u32,
-) -> Place<C>
+) -> TableSeat<C>
     requires table { (place.old.table_id ≡ top.now.table_id) × IsSized top.now.table_id top.now.key }
     requires picked { at ≡ Q.at }
     requires ready { IsIdle place.old.me.0 first last × (first < at) × (at ≤ last) }
@@ -154,12 +170,12 @@ fn split_as<C: Keep, Q: plays::Place>(
 
 /// Cuts off the sessions from `at` on.
 pub fn split<C: Keep>(
-    top: &Top<C>,
-    place: &mut Place<C>,
+    top: &SharedTable<C>,
+    place: &mut TableSeat<C>,
     first: u32,
     last: u32,
     at: u32,
-) -> Place<C>
+) -> TableSeat<C>
     requires table { (place.old.table_id ≡ top.now.table_id) × IsSized top.now.table_id top.now.key }
     requires ready { IsIdle place.old.me.0 first last × (first < at) × (at ≤ last) }
     ensures same { (place.new.table_id ≡ place.old.table_id) × (result.table_id ≡ place.old.table_id) }
@@ -170,9 +186,9 @@ pub fn split<C: Keep>(
 
 /// Takes in the seat of the sessions that follow.
 pub fn join_seats<C: Keep>(
-    top: &Top<C>,
-    place: &mut Place<C>,
-    other: Place<C>,
+    top: &SharedTable<C>,
+    place: &mut TableSeat<C>,
+    other: TableSeat<C>,
     end: u32,
     first: u32,
     middle: u32,

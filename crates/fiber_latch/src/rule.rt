@@ -16,7 +16,7 @@ pub enum Kept<C> {
 
 /// What lies in a latch's slot: a value, and beside it the latch's pass.
 #[derive(Drop)]
-pub struct Lain<C> {
+pub struct SlotValue<C> {
     pub kept: Kept<C>,
     pub pass: Badge<View>,
 }
@@ -32,7 +32,7 @@ pub struct Busy {
 
 /// What the table is opened for. `end` is the number of the journal's latch.
 #[derive(Drop)]
-pub struct About {
+pub struct TableKey {
     pub world: Snapshot<World>,
     pub end: u64,
     pub sessions: u64,
@@ -40,11 +40,11 @@ pub struct About {
 }
 
 /// The rule over stores of this type.
-pub struct Free<C> {
+pub struct LatchRule<C> {
     store: PhantomData<C>,
 }
 
-impl<C: Keep> TableRule<Option<Lain<C>>, View, About> for Free<C> {
+impl<C: Keep> TableRule<Option<SlotValue<C>>, View, TableKey> for LatchRule<C> {
     ghost use Rattle.fiber_latch.specs.Rule.{Ruled, Good};
     ghost use Rattle.fiber_latch.specs.Conditions.{terms_of};
     ghost use Rattle.fiber_latch.specs.Openings.{first_view};

@@ -391,7 +391,11 @@ fn the_second_seat_finds_the_holder(rt: HostRuntime) -> Result<(), Fail> {
     let Ok(kept) = latches.try_take(&mut other, 2, 0) else {
         panic!(rt; "the latch was given back")
     };
-    latches.give(&mut other, 0, kept);
+    let Kept::Fiber(store) = kept else {
+        panic!(rt; "a fiber has a store")
+    };
+    assert!(rt; store.latch == 0 && store.number(1) == 0);
+    latches.give(&mut other, 0, Kept::Fiber(store));
     latches.join(&mut seat, other);
     assert!(rt; seat.first() == 1 && seat.last() == 2 && seat.number(2) == 0);
     let closed = latches.close(seat);

@@ -4,7 +4,8 @@ use Rattle.fiber_latch.specs.declared.view.Terms.{Terms}
 use Rattle.fiber_latch.specs.Latch.{GoodAt, terms_of}
 use Rattle.fiber_latch.specs.Seats.{IsStore}
 use Rattle.fiber_latch.proofs.Begin.{can_give_at, gave_back}
-use Rattle.fiber_latch.proofs.Legal.{last_at, front_at}
+use Rattle.std.proofs.Math.ListN.{get_or-append}
+use Rattle.fiber_latch.proofs.Legal.{last_at}
 use Rattle.fiber_latch.proofs.opening.give_fibers.Goals as goal
 
 pub give-requires-clause-ready : goal.give-requires-clause-ready
@@ -36,5 +37,5 @@ loop-store-preserved g c =
       me = gave_back c.args.place.now.me.0 (vec_len c.loop-store.stores) (vec_len c.pop.new.self) c.loop-store.place.me c.give.new.place.me inv.me (omega arith) c.give.ensures.me;
       few = let f = inv.few in omega arith;
       room = let f = inv.room in let q = c.pop.ensures.capacity in omega arith;
-      good = λ n d b. subst (IsStore g.C.Keep.content g.C.Keep.sound (terms_of c.args.top.now.key) c.args.place.now.me.0.seen n) (ap (λ xs. get_or xs n d) c.in-Some.ensures.items ∙ front_at c.pop.new.self.items (store ∷ []) n d b) (inv.good n d (omega arith));
+      good = λ n d b. subst (IsStore g.C.Keep.content g.C.Keep.sound (terms_of c.args.top.now.key) c.args.place.now.me.0.seen n) (ap (λ xs. get_or xs n d) c.in-Some.ensures.items ∙ get_or-append c.pop.new.self.items (store ∷ []) d n b) (inv.good n d (omega arith));
     }

@@ -1,6 +1,6 @@
 use Rattle.std.proofs.Common.{ℕ, Option, [], ◌≡◌, ◌+◌, sym, ap, ◌∙◌, subst}
 use Rattle.atomic_table.specs.Table.{Me}
-use Rattle.fiber_latch.specs.declared.rule.Lain.{Lain}
+use Rattle.fiber_latch.specs.declared.rule.SlotValue.{SlotValue}
 use Rattle.fiber_latch.specs.declared.view.Terms.{Terms}
 use Rattle.fiber_latch.specs.declared.view.View.{View}
 use Rattle.fiber_latch.specs.Latch.{named_view, name_of, first_view, holding, half, hand_to, opened_to, terms_of}
@@ -25,5 +25,5 @@ give_back-room-requires-clause-ready g c =
     let z = name_of t.table_id in
     let n : ℕ = c.args.end in
     let out : c.take_out.new.place.me ≡ (holding (named_view z (first_view x)) (half (n + 1) n), hand_to (n + 1)) =
-    c.take_out.ensures.me ∙ ap (λ (m : Me (Option (Lain g.row.C.Denot)) View). (holding m.0 (half (n + 1) n), hand_to (n + 1))) c.learn.ensures.me in
+    c.take_out.ensures.me ∙ ap (λ (m : Me (Option (SlotValue g.row.C.Denot)) View). (holding m.0 (half (n + 1) n), hand_to (n + 1))) c.learn.ensures.me in
     (opening_at x z (half (n + 1) n) (hand_to (n + 1)) c.take_out.new.place.me out, all_out c.learn.new.place.me.0 n c.take_out.new.place.me c.take_out.ensures.me)

@@ -1,7 +1,7 @@
 use Rattle.std.proofs.Common.{ℕ, Option, ◌≤◌, arith, sym, ◌∙◌, subst}
 use mathlib.Core.Option.{none}
 use Rattle.atomic_table.specs.Table.{Allows, Me, step}
-use Rattle.fiber_latch.specs.declared.rule.Lain.{Lain}
+use Rattle.fiber_latch.specs.declared.rule.SlotValue.{SlotValue}
 use Rattle.fiber_latch.specs.declared.view.View.{View}
 use Rattle.fiber_latch.specs.Latch.{Good, Ruled, terms_of, Opens, holding, half, hand_to}
 use Rattle.fiber_latch.proofs.Open.{open_moves}
@@ -22,7 +22,7 @@ load-requires g c =
     let inside : l ≤ c.args.end = omega arith in (
       inv.table ∙ t.0,
       (let w = t.1.0 in let e = t.2 in omega arith),
-      subst (λ (m : Me (Option (Lain g.row.C.Denot)) View). Allows (Ruled (terms_of key) good) slots place.id m l (λ n. n) (Opens (step slots l 0 0 none) m)) (sym inv.me)
+      subst (λ (m : Me (Option (SlotValue g.row.C.Denot)) View). Allows (Ruled (terms_of key) good) slots place.id m l (λ n. n) (Opens (step slots l 0 0 none) m)) (sym inv.me)
           (open_moves good (terms_of key) slots place.id 1 l (holding v0 (half l c.args.end)) (hand_to l) o.session (half_in l c.args.end inside) o.idle),
     )
 

@@ -4,7 +4,7 @@ use Rattle.fiber_latch.specs.declared.view.Role.TheVariants.{Sessions}
 use Rattle.fiber_latch.specs.Latch.{Good, Ruled, terms_of, IsSession, Looks, joined_role}
 use Rattle.atomic_table.specs.Table.{Allows, Me, step}
 use mathlib.Core.Option.{none}
-use Rattle.fiber_latch.specs.declared.rule.Lain.{Lain}
+use Rattle.fiber_latch.specs.declared.rule.SlotValue.{SlotValue}
 use Rattle.fiber_latch.proofs.Sessions.{join_moves_as}
 use Rattle.fiber_latch.proofs.Part.{look_moves}
 use Rattle.fiber_latch.proofs.raw.join_seats.Goals as goal
@@ -31,7 +31,7 @@ load-requires g c =
     let seat = c.join_seat.new.seat in
     let slots : ℕ = c.args.top.now.table_id.slots in
     let role : joined_role c.args.place.now.me.0.role c.args.other.me.0.role ≡ Sessions c.args.first c.args.last = λ i. joined_role (r.0.role i) (r.1.role i) in
-    let session : IsSession seat.me.0.role = subst (λ (m : Me (Option (Lain g.row.C.Denot)) View). IsSession m.0.role) (sym j.2) (subst IsSession (sym role) tt) in
+    let session : IsSession seat.me.0.role = subst (λ (m : Me (Option (SlotValue g.row.C.Denot)) View). IsSession m.0.role) (sym j.2) (subst IsSession (sym role) tt) in
     let word : c.args.end + 1 < c.args.top.now.table_id.words = let a = t.3.0 in let b = t.4 in omega arith in (
       j.0 ∙ t.0,
       word,

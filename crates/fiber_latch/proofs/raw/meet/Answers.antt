@@ -3,7 +3,7 @@ use Rattle.fiber_latch.specs.declared.view.View.{View}
 use Rattle.fiber_latch.specs.Latch.{Good, Ruled, terms_of, the_view, met_pass, spent_view, IsSession, Looks}
 use Rattle.atomic_table.specs.Table.{Joins, Allows, Me, step}
 use mathlib.Core.Option.{none}
-use Rattle.fiber_latch.specs.declared.rule.Lain.{Lain}
+use Rattle.fiber_latch.specs.declared.rule.SlotValue.{SlotValue}
 use Rattle.fiber_latch.proofs.Meet.{meet_moves_as}
 use Rattle.fiber_latch.proofs.Part.{look_moves}
 use Rattle.fiber_latch.proofs.raw.meet.Goals as goal
@@ -37,7 +37,7 @@ load-requires g c =
     let j = c.join_seat.ensures in
     let seat = c.join_seat.new.seat in
     let slots : ℕ = c.args.top.now.table_id.slots in
-    let session : IsSession seat.me.0.role = subst (λ (m : Me (Option (Lain g.row.C.Denot)) View). IsSession m.0.role) (sym j.2) c.requires.ready.session in
+    let session : IsSession seat.me.0.role = subst (λ (m : Me (Option (SlotValue g.row.C.Denot)) View). IsSession m.0.role) (sym j.2) c.requires.ready.session in
     let word : c.args.end + 1 < c.args.top.now.table_id.words = let a = t.1.0 in let b = t.2 in omega arith in (
       j.0 ∙ t.0,
       word,

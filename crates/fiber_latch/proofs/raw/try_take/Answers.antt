@@ -18,4 +18,4 @@ returns-clause-ok g c =
     let h = k.2 in
     let v = c.args.place.now.me.0 in
     took_all g.C.Keep.content g.C.Keep.sound c.args.latch c.args.session v k.1 c.args.place.now.me.1 c.take_step-found.new.place.me c.lift-kept.new.place.me c.meet.new.place.me k.0 c.lift-kept.result
-    (owner_is_session v.role c.args.session r.owns) r.idle h.0 h.1 h.3 h.4 c.lift-kept.ensures.was c.lift-kept.ensures.me c.meet.ensures.me c.meet.ensures.told
+    (owner_is_session v.role c.args.session r.owns) r.idle h.0 h.1 h.3 h.4 h.5 c.lift-kept.ensures.was c.lift-kept.ensures.me c.meet.ensures.me c.meet.ensures.told

@@ -1,4 +1,4 @@
-use Rattle.std.proofs.Common.{ℕ, ◌≡◌, ◌<◌, ◌≤◌, ◌/◌, ◌∙◌, sym, subst, arith}
+use Rattle.std.proofs.Common.{ℕ, ◌<◌, ◌/◌, ◌∙◌, sym, subst}
 use Rattle.fiber_latch.specs.declared.tests.Small.{Small}
 use Rattle.fiber_latch.proofs.TrialStores.{twice_good, twice_number}
 use Rattle.fiber_latch.proofs.tests.round.Goals as goal

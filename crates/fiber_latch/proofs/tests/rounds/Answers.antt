@@ -1,4 +1,4 @@
-use Rattle.std.proofs.Common.{ℕ, ◌≡◌, ◌+◌, ◌<◌, ◌≤◌, ◌∙◌, sym, subst, arith, refl}
+use Rattle.std.proofs.Common.{◌∙◌, arith, refl}
 use Rattle.fiber_latch.proofs.TrialStores.{unused_rests, rests_done}
 use Rattle.fiber_latch.proofs.tests.rounds.Goals as goal
 

@@ -1,4 +1,4 @@
-use Rattle.std.proofs.Common.{ℕ, ◌≡◌, ◌+◌, ◌<◌, ◌≤◌}
+use Rattle.std.proofs.Common.{ℕ, ◌≡◌, ◌+◌}
 use Rattle.fiber_latch.specs.Trial.{IsResting}
 use Rattle.fiber_latch.proofs.tests.rounds.Given as goal
 

@@ -1,4 +1,4 @@
-use Rattle.std.proofs.Common.{ℕ, ◌≡◌, vec_len}
+use Rattle.std.proofs.Common.{◌≡◌, vec_len}
 use Rattle.fiber_latch.specs.Trial.{AreNew}
 use Rattle.fiber_latch.specs.declared.tests.Small.{Small}
 use Rattle.fiber_latch.proofs.tests.stores.Given as goal

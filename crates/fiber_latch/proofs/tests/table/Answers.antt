@@ -1,4 +1,4 @@
-use Rattle.std.proofs.Common.{◌≡◌, ◌∙◌, sym}
+use Rattle.std.proofs.Common.{◌∙◌, sym}
 use Rattle.fiber_latch.specs.declared.tests.Small.{Small}
 use Rattle.fiber_latch.proofs.TrialStores.{new_stores}
 use Rattle.fiber_latch.proofs.tests.table.Goals as goal

@@ -4,7 +4,7 @@ use Rattle.dt_model.specs.Tensors.{latch_count}
 use Rattle.dt_model.specs.Verdicts.{call_is_valid}
 use Rattle.atomic_table.specs.Seated.{TableId}
 use Rattle.atomic_table.specs.Table.{Me}
-use Rattle.fiber_latch.specs.declared.rule.Lain.{Lain}
+use Rattle.fiber_latch.specs.declared.rule.SlotValue.{SlotValue}
 use Rattle.fiber_latch.specs.declared.view.Terms.{Terms}
 use Rattle.fiber_latch.specs.declared.view.View.{View}
 use Rattle.fiber_latch.specs.Latch.{In, Lawful, CanCommit, terms_of}
@@ -54,6 +54,6 @@ invariant_of-seat g c =
     let high = subst (λ (x : SeatState). e.turn.session ≤ x.last) is r.session.1 in
     let law = lawful_after s.place.table_id s.first s.last s.place.me c.seat.invariant.0 c.args.seat.now c.seat.view_is c.args.self.now.terms r.table.1 e r.session.0 r.session.1 r.call r.number.0 r.number.1 in
     let law' = subst (λ (p : Terms × SeatState). Lawful p.0 (p.1.seen ++ e ∷ [])) (λ i. ((sym r.table.1 ∙ ap (λ (x : SeatState). x.terms) is) i, is i)) law in
-    subst (λ (p : TableId × Me (Option (Lain g.row.C.Denot)) View). Seated p.0 s.first s.last p.1 × Numbered s.first s.last (set s.numbers (e.turn.session - 1) e.turn.number) p.1.0.seen)
+    subst (λ (p : TableId × Me (Option (SlotValue g.row.C.Denot)) View). Seated p.0 s.first s.last p.1 × Numbered s.first s.last (set s.numbers (e.turn.session - 1) e.turn.number) p.1.0.seen)
     (λ i. (sym c.commit.ensures.same.0 i, sym c.commit.ensures.me i))
     (pushed_sits s.place.table_id s.first s.last s.place.me e c.seat.invariant.0 law', numbered_push s.first s.last s.numbers s.place.me.0.seen e c.seat.invariant.0.some_session c.seat.told low high c.seat.invariant.1)

@@ -1,7 +1,7 @@
 use Rattle.std.proofs.Common.{ℕ, [], ◌≡◌, ◌+◌, ◌<◌, ◌≤◌, Option, arith, ap, ◌∙◌, sym, subst, get_or}
 use Rattle.atomic_table.specs.Seated.{TableId}
 use Rattle.atomic_table.specs.Table.{Me}
-use Rattle.fiber_latch.specs.declared.rule.Lain.{Lain}
+use Rattle.fiber_latch.specs.declared.rule.SlotValue.{SlotValue}
 use Rattle.fiber_latch.specs.declared.view.Role.TheVariants.{Sessions}
 use Rattle.fiber_latch.specs.declared.view.Terms.{Terms}
 use Rattle.fiber_latch.specs.declared.view.View.{View}
@@ -50,7 +50,7 @@ invariant_of-seat g c =
     let role : o.place.me.0.role ≡ Sessions (s.last + 1) o.last = c.other.invariant.0.role ∙ (λ i. Sessions (next i) o.last) in
     let joins = has_joined s.place.table_id s.first s.last o.last s.place.me.0 o.place.me.0 c.seat.invariant.0.role role j.told.0 in
     let numbers = c.both_numbers-seat-inside.result in
-    subst (λ (p : TableId × Me (Option (Lain g.row.C.Denot)) View). Seated p.0 s.first o.last p.1 × Numbered s.first o.last numbers p.1.0.seen)
+    subst (λ (p : TableId × Me (Option (SlotValue g.row.C.Denot)) View). Seated p.0 s.first o.last p.1 × Numbered s.first o.last numbers p.1.0.seen)
     (λ i. (sym j.same i, sym j.me i)) (
       joined_sits s.place.table_id s.first s.last o.last s.place.me o.place.me c.seat.invariant.0 role (subst (λ (x : Terms). o.last ≤ x.sessions) same c.other.invariant.0.within) j.told.1,
       numbered_both s.first s.last o.last s.numbers o.numbers numbers s.place.me.0.seen o.place.me.0.seen (joined s.place.me.0 o.place.me.0).seen c.seat.invariant.0.some_session joins.mine joins.theirs c.seat.invariant.1

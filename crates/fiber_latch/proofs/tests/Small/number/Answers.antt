@@ -1,4 +1,4 @@
-use Rattle.std.proofs.Common.{ℕ, List, ◌≡◌, ◌≢◌, ◌<◌, arith, sym, ap, ◌∙◌, subst, get_or, length}
+use Rattle.std.proofs.Common.{ℕ, List, arith, sym, ap, ◌∙◌}
 use Rattle.fiber_latch.specs.Trial.{found}
 use Rattle.fiber_latch.proofs.Trials.{found_at, found_nowhere}
 use Rattle.fiber_latch.proofs.tests.Small.number.Goals as goal

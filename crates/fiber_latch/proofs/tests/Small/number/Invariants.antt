@@ -1,4 +1,4 @@
-use Rattle.std.proofs.Common.{ℕ, ◌≡◌, ◌≢◌, ◌<◌, get_or}
+use Rattle.std.proofs.Common.{ℕ, ◌≢◌, ◌<◌, get_or}
 use Rattle.fiber_latch.proofs.tests.Small.number.Given as goal
 
 abbrev pub invariant-loop-cell : goal.invariant-loop-cell

@@ -1,5 +1,5 @@
-use Rattle.std.proofs.Common.{ℕ, List, ◌≡◌, ◌≢◌, ◌<◌, ◌≤◌, refl, arith, sym, ap, ◌∙◌, subst, get_or, length}
-use Rattle.fiber_latch.specs.Trial.{found, HasPut}
+use Rattle.std.proofs.Common.{ℕ, List, ◌≡◌, ◌≢◌, ◌<◌, ◌≤◌, refl, sym, ap, ◌∙◌, subst, get_or, length}
+use Rattle.fiber_latch.specs.Trial.{HasPut}
 use Rattle.fiber_latch.proofs.Trials.{put_set, put_inserted, same_at}
 use Rattle.fiber_latch.proofs.tests.Small.put.Goals as goal
 
