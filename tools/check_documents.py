@@ -2,42 +2,46 @@
 """Checks that the documents say no more than the repository has: python3 tools/check_documents.py [ROOT]
 
 It prints each fault as `FILE:LINE: what is wrong; what to do`, and ends with status 1 where there is one.
-ROOT is the top of a checkout, by default the one that this script lies in. The documents are README.md,
-docs/*.md, crates/NAME/README.md of each crate of crates.txt, bench/*.md and the .md files of examples/.
+ROOT is the top of a checkout, by default the one that this script lies in. The documents are all its .md files.
 
 How a document names things, so that they can be looked up:
 
-- A path is a link, a code span that has a `/` or one of the endings below, or a word with a `/` in a longer span or in
-  a ```sh block. A link is looked up from the document's folder. Other paths are looked up from the top, from the
-  document's folder and, in a crate's README, from that crate's src/; a bare name of a file or folder may stand
-  anywhere in the repository. `*` stands for some name, and has to fit one file at least. A path with the word NAME is
-  a form, one with a part `out` is built, and neither is looked up.
-- A call is `crate::call`, `crate::Type::method` or `crate::Type`; what follows a `(` or `<` isn't read. In a crate's
-  README `Type::method` is that crate's. Those of std, of a primitive type or of a library that crates.txt names
-  aren't looked up.
-- Clauses are named by the word: clause `label`, or clauses `first`, `second` and `third`. They are those of the
-  last call named before them in the paragraph, list item or table row, or of the call in: clause `label` of
-  `crate::call`. Where there is no call, they have to stand somewhere in the README's crate, or in any crate.
-- Tests are named by the word: test `name`, tests `first` and `second`, or test `crate::name`. A crate's README
-  names its own, other documents those of any crate.
-- Definitions are named by the word: definition `Name`, or definitions `first` and `Second`. They are those of the
-  specs/ of any crate, or of the file in: definition `Name` of `crates/NAME/specs/File.antt`.
+- Every name stands in a code span, and every span of one word is looked up: in a crate's README it is a name that the
+  crate's code, definitions or proofs have or use, or a file of it; elsewhere one of any crate. `a.b` are two names.
+  The few other words are KNOWN_WORDS of names.py. A span of several words is shown text; only its names with a `_`
+  are looked up. Outside of code spans stand no names with a `_` or `::` but those of crates.
+- A call is `crate::call`, `crate::Type::method` or `crate::Type`, as the crate's root gives it out; what follows a `(`
+  or `<` isn't read. In a crate's README that crate's may be written `Type::method`, and `call` where calls are listed.
+  Those of std, of a primitive type or of a library that crates.txt names aren't looked up.
+- Clauses are named by the word: clause `label`, or clauses `first`, `second` and `third`. Each is one of each call
+  listed before them (last in the paragraph, list item or table row), or of those in: clause `label` of `crate::call`
+  and `crate::other`. A list is joined by commas, `/`, dashes, 'and' or 'or', and may have words in parentheses.
+- Tests, definitions, lemmas and theorems are named by these words: test `name`, definitions `first` and `Second`. A
+  crate's README names its own tests and lemmas, and definitions of its own and of what it stands on; other documents
+  those of any crate. A name with a file behind it, `name` of `specs/File.antt`, is one of that file.
 - An edit is `name.edit`: of the README's crate, or of any crate.
+- A path has a `/` or one of the endings in paths.py, in a code span or outside, and in a block of commands. It is looked
+  up from the top, from the document's folder and, in a crate's README, from that crate's src/; a bare name of a file or
+  folder may stand anywhere in the crate, or in the repository. A link is looked up from the document's folder. No path
+  or link leads out of the repository. `*` and NAME stand for some name, and have to fit one file at least; of what lies
+  in a folder `out`, which is built, the folder around it is looked up.
 - A block whose opening line is ```text FILE shows that file byte for byte, FILE being its path from the top.
 - README.md shows the stored run of the program: such a block for each file in its data/ and for its stdout, and a
   line `$ dyntensor WORDS` with the words of its file args.
+- A row of a promise in docs/CLAIMS.md has behind it: `crate::call` clause `label` | `name.edit` | test `name`.
 - An entry of docs/DECISIONS.md with a line that begins with 'Superseded' keeps its old names, which aren't looked up.
 - examples/NAME/ has args, data/, stdout and, if it isn't 0, status, as the program's own stored run.
 """
 
-import fnmatch
 import os
-import re
 import sys
+from functools import cached_property
 from pathlib import Path
 
-from markdown import LINK, SPAN, bare, read_document, table_under
-from sources import definitions_in, function_sizes, read_crates
+from markdown import SPAN, bare, read_document, table_under
+from names import FOREIGN, check_names, check_promises
+from paths import check_markdown, home_of
+from sources import function_sizes, read_crates
 from stored_runs import check_examples, check_shown_files
 
 CRATE_HEADINGS = ["Calls", "What a contract sees", "Proved", "Only tested", "Not said", "Stands on"]
@@ -46,14 +50,6 @@ README_LINES = 60
 HARD_LIMIT = 800
 FILE_AIMS = {"src": 400, "specs": 150, "proofs": 120}
 FUNCTION_AIM, CRATE_AIM = 40, 100
-ENDINGS = (".md", ".rt", ".antt", ".py", ".sh", ".txt", ".toml", ".edit")
-PATH = re.compile(r"\.?[A-Za-z][A-Za-z0-9_.*+-]*(?:/[A-Za-z0-9_.*+-]+)*/?")
-CALL = re.compile(r"([a-z][a-z0-9_]*)::([A-Za-z_][A-Za-z0-9_]*(?:::[A-Za-z_][A-Za-z0-9_]*)*)(?=$|[(<\s])")
-METHOD = re.compile(r"([A-Z][A-Za-z0-9_]*::[A-Za-z_][A-Za-z0-9_]*)(?=$|[(<\s])")
-LISTED = r"`[A-Za-z_][A-Za-z0-9_:]*`"
-NAMES = re.compile(rf"\b(clause|test|definition)s?\s+({LISTED}(?:(?:,\s+and|,|\s+and)\s+{LISTED})*)")
-OF_CALL = re.compile(r"\s+of\s+`([^`]+)`")
-FOREIGN = {"std", "core", "alloc", "crate", "bool", "char", "str", *(f"{kind}{size}" for kind in "iu" for size in (8, 16, 32, 64, 128, "size"))}
 SKIPPED = {".git", "out", "__pycache__"}
 
 
@@ -66,7 +62,13 @@ class Check:
         self.by_name = {crate.name: crate for crate in self.crates}
         self.foreign = FOREIGN | {it for crate in self.crates for it in crate.libraries} - {*self.by_name}
         self.files = all_files(self.top)
-        self.documents = [self.document(path) for path in document_paths(self.top, self.crates)]
+        self.documents = [self.document(path) for path in self.files if path.endswith(".md")]
+
+    @cached_property
+    def words(self):
+        """Every name that a crate has, and those of files and folders."""
+        found = {name for path in self.files for part in path.split("/") for name in (part, part.split(".")[0])}
+        return found.union(*(crate.words for crate in self.crates))
 
     def fault(self, path, line, wrong, remedy):
         self.faults.append(f"{path}:{line}: {wrong}; {remedy}")
@@ -85,13 +87,6 @@ def all_files(top):
         folders[:] = sorted(it for it in folders if it not in SKIPPED and f"{at}/{it}" != f"{top}/tools/fixtures")
         found += [os.path.relpath(f"{at}/{name}", top) for name in sorted(names)]
     return found
-
-
-def document_paths(top, crates):
-    found = ["README.md", *(f"crates/{crate.name}/README.md" for crate in crates)]
-    for pattern in ("docs/*.md", "bench/*.md", "examples/**/*.md"):
-        found += sorted(str(it.relative_to(top)) for it in top.glob(pattern))
-    return [path for path in found if (top / path).is_file()]
 
 
 # ---- the crates and their sentences
@@ -142,186 +137,48 @@ def check_rows(check, path):
     for (line, cells), name in zip(rows, names):
         if name not in check.by_name:
             check.fault(path, line, f"{name} is no crate of crates.txt", "drop the row, or list the crate")
+        elif "](" in cells[0] and f"crates/{name}/README.md)" not in cells[0]:
+            check.fault(path, line, f"the row of {name} leads to another file", f"let it lead to crates/{name}/README.md")
         elif check.by_name[name].sentence not in ("", *cells[1:2]):
             check.fault(path, line, f"the sentence of {name} differs", f"write '{check.by_name[name].sentence}' as in crates.txt")
     for crate in check.crates:
         if crate.name not in names:
             check.fault(path, rows[0][0], f"{crate.name} has no row", "add it where crates.txt has the crate")
-    if sorted(names) == sorted(check.by_name) and names != list(check.by_name):
+    listed = [name for name in names if name in check.by_name]
+    for place, name in enumerate(names):
+        if name in names[:place]:
+            check.fault(path, rows[place][0], f"{name} has a row already", "drop this one")
+    if [*dict.fromkeys(listed)] != [name for name in check.by_name if name in names]:
         check.fault(path, rows[0][0], "the rows stand in another order than in crates.txt", "put them in the order " + ", ".join(check.by_name))
 
 
-# ---- what documents name
+# ---- forms, headings and sizes
 
 
-def check_names(check):
+def check_forms(check):
     for document in check.documents:
-        superseded = superseded_lines(document)
-        for block in document.blocks:
-            if block.line not in superseded:
-                check_block(check, document.path, block)
-        for fence in document.fences:
-            if fence.info[:1] == ["sh"]:
-                for line, command in enumerate(fence.text.splitlines(), fence.line + 1):
-                    check_paths(check, document.path, line, command)
-
-
-def superseded_lines(document):
-    """The lines of the entries of the record of decisions that are superseded."""
-    if document.path != "docs/DECISIONS.md":
-        return set()
-    starts = [line for line, _ in document.sections(2)] + [len(document.lines) + 1]
-    entries = [range(start, end) for start, end in zip(starts, starts[1:])]
-    return {line for it in entries if any(document.lines[n - 1].startswith("Superseded") for n in it) for line in it}
-
-
-def check_block(check, path, block):
-    for found in LINK.finditer(block.text):
-        check_link(check, path, block.line_at(found.start()), found[1])
-    calls = []
-    for found in SPAN.finditer(block.text):
-        line = block.line_at(found.start())
-        span = " ".join(found[1].split())
-        called = call_in(check, path, span)
-        if called:
-            calls.append((found.start(), called))
-            check_call(check, path, line, span, called)
-        elif re.fullmatch(r"[A-Za-z0-9_*-]+\.edit", span):
-            check_edit(check, path, line, span)
-        else:
-            check_crate_named(check, path, line, span)
-            check_paths(check, path, line, span)
-    for found in NAMES.finditer(block.text):
-        check_listed(check, path, block, found, calls)
-
-
-def home_of(check, path):
-    """The crate whose README this is, if it is one."""
-    parts = path.split("/")
-    return check.by_name.get(parts[1]) if parts[0] == "crates" else None
-
-
-def call_in(check, path, span):
-    """The crate and the path in it that a code span names, if it names a call."""
-    found = CALL.match(span)
-    if found and found[1] in check.by_name:
-        return check.by_name[found[1]], found[2]
-    home, method = home_of(check, path), METHOD.match(span)
-    return (home, method[1]) if home and method else None
-
-
-def check_crate_named(check, path, line, span):
-    found = CALL.match(span)
-    if found and found[1] not in check.foreign:
-        check.fault(path, line, f"`{span}` begins with no crate of crates.txt", "put the call's crate in front")
-
-
-def check_call(check, path, line, span, called):
-    crate, item = called
-    if item not in crate.tests and crate.labels_of(item) is None:
-        check.fault(path, line, f"`{span}` isn't in crates/{crate.name}/src", "name it as it is there, another crate's with that crate in front, or drop the claim")
-
-
-def check_edit(check, path, line, name):
-    home = home_of(check, path)
-    found = [it for crate in ([home] if home else check.crates) for it in crate.edits]
-    if not fnmatch.filter(found, name):
-        where = f"crates/{home.name}/must-fail" if home else "any crate's must-fail"
-        check.fault(path, line, f"the edit {name} isn't in {where}", "name one that is there, or write it")
-
-
-def check_listed(check, path, block, found, calls):
-    """Looks up the clauses, tests or definitions that one phrase names."""
-    line = block.line_at(found.start())
-    behind = OF_CALL.match(block.text, found.end())
-    before = [called for at, called in calls if at < found.start()]
-    called = behind and call_in(check, path, behind[1]) or (before[-1] if before else None)
-    for name in SPAN.findall(found[2]):
-        if found[1] == "test":
-            check_test(check, path, line, name)
-        elif found[1] == "definition":
-            check_definition(check, path, line, name, behind and behind[1])
-        elif ":" not in name:
-            check_clause(check, path, line, name, called)
-
-
-def check_definition(check, path, line, name, of):
-    """Looks a definition up in the file that is named behind it, or else in all crates."""
-    homes = [check.top / folder / of for folder in ("", os.path.dirname(path))] if of else []
-    home = next((it for it in homes if it.suffix == ".antt" and it.is_file()), None)
-    if home and name not in definitions_in(home):
-        check.fault(path, line, f"the definition `{name}` isn't in {of}", "name the file that has it")
-    elif not any(name in crate.definitions for crate in check.crates):
-        check.fault(path, line, f"the definition `{name}` isn't in any crate's specs", "name it as it is there, or drop the claim")
-
-
-def check_clause(check, path, line, name, called):
-    home = home_of(check, path)
-    if called:
-        labels, where = called[0].labels_of(called[1]), f"the contract of {called[0].name}::{called[1]}"
-        if labels is None:
-            return  # the call itself is a fault
-    else:
-        labels = {it for crate in ([home] if home else check.crates) for it in crate.labels}
-        where = f"crates/{home.name}/src" if home else "any crate"
-    if name not in labels:
-        has = f" (it has {', '.join(sorted(labels)) or 'none'})" if called else ""
-        check.fault(path, line, f"the clause `{name}` isn't in {where}{has}", "name the clause as it is there, or drop the claim")
-
-
-def check_test(check, path, line, name):
-    *parts, test = name.split("::")
-    home = check.by_name.get(parts[0]) if parts else home_of(check, path)
-    crates = [home] if home else check.crates
-    if not any(test in crate.tests for crate in crates):
-        where = f"crates/{home.name}/src" if home else "any crate"
-        check.fault(path, line, f"the test `{name}` isn't in {where}", "name one that is there, or write it")
-
-
-def check_link(check, path, line, target):
-    target = target.split("#")[0]
-    if not target or re.match(r"[a-z]+:", target) or is_form(target):
-        return
-    if not (check.top / path).parent.joinpath(target).exists():
-        check.fault(path, line, f"the link to {target} leads nowhere", "write the file's path from this document's folder")
-
-
-def check_paths(check, path, line, span):
-    words = span.split()
-    for word in words:
-        word = word.rstrip(".,:;")
-        is_path = PATH.fullmatch(word) and ("/" in word or len(words) == 1 and word.endswith(ENDINGS))
-        if is_path and word not in ENDINGS and not is_form(word) and not path_exists(check, path, word):
-            check.fault(path, line, f"the path {word} isn't there", "write it from the top of the repository")
-
-
-def is_form(word):
-    """Whether a path has a part that stands for others, or is built."""
-    return any(part in ("NAME", "out") or "NAME." in part for part in word.split("/"))
-
-
-def path_exists(check, path, word):
-    home = home_of(check, path)
-    folders = ["", os.path.dirname(path), *([f"crates/{home.name}/src"] if home else [])]
-    for folder in folders:
-        whole = os.path.normpath(os.path.join(folder, word))
-        if (check.top / whole).exists() or "*" in word and fnmatch.filter(check.files, whole):
-            return True
-    name = word.rstrip("/")
-    return "/" not in name and any(fnmatch.filter(it.split("/"), name) for it in check.files)
-
-
-# ---- headings and sizes
+        check_markdown(check, document)
 
 
 def check_headings(check):
     for document in check.documents:
         if document.path == "README.md":
             check_order(check, document, HOUSE_HEADINGS)
-        elif home_of(check, document.path):
+        elif home_of(check, document.path) and document.path.count("/") == 2:
             check_order(check, document, CRATE_HEADINGS)
             if len(document.lines) > README_LINES:
                 check.fault(document.path, README_LINES + 1, f"it has {len(document.lines)} lines", f"shorten it to {README_LINES} at most")
+
+
+def check_stands_on(check):
+    """The last heading of a crate's README names no crate of the house that crates.txt doesn't have behind its name."""
+    for document in check.documents:
+        home = home_of(check, document.path)
+        start = next((line for line, title in document.sections(2) if home and title == "Stands on"), len(document.lines))
+        spans = [(block.line, span) for block in document.blocks if block.line > start for span in SPAN.findall(block.text)]
+        for line, name in spans:
+            if name in check.by_name and name not in home.libraries:
+                check.fault(document.path, line, f"{home.name} doesn't stand on {name}", "name what crates.txt has behind its name")
 
 
 def check_order(check, document, wanted):
@@ -368,13 +225,14 @@ def main(words):
         print(f"{top}/crates.txt:1: there is no such file; give the top of a checkout")
         return 1
     check = Check(top)
-    for rule in (check_crates, check_names, check_headings, check_shown_files, check_examples, check_sizes):
+    for rule in (check_crates, check_forms, check_promises, check_names, check_headings, check_stands_on, check_shown_files, check_examples, check_sizes):
         rule(check)
     for note in check.notes:
         print(f"note: {note}")
     for fault in check.faults:
         print(fault)
-    print(f"documents: {len(check.faults)} faults" if check.faults else "documents: no fault")
+    count = len(check.faults)
+    print(f"documents: {count or 'no'} fault{'s' if count > 1 else ''}")
     return 1 if check.faults else 0
 
 

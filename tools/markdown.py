@@ -9,7 +9,8 @@ from dataclasses import dataclass, field
 FENCE = re.compile(r"^\s*(```+|~~~+)\s*(.*?)\s*$")
 HEADING = re.compile(r"^(#{1,6})\s+(.*?)\s*$")
 SPAN = re.compile(r"`([^`]+)`")
-LINK = re.compile(r"\[[^\]]*\]\(([^)\s]+)\)")
+# The target of a link, whatever its words are, or of a link that is defined apart.
+LINK = re.compile(r"\]\(\s*<?([^)\s>]*)|^ {0,3}\[[^\]]+\]:\s*<?([^\s>]+)", re.M)
 # A paragraph, list item or table row: what is said in one of them is read together.
 STARTS_BLOCK = re.compile(r"^\s*([-*+]\s|[0-9]+\.\s|\||#)")
 
@@ -17,8 +18,13 @@ STARTS_BLOCK = re.compile(r"^\s*([-*+]\s|[0-9]+\.\s|\||#)")
 @dataclass
 class Fence:
     line: int
+    mark: str
     info: list
     text: str = ""
+
+    @property
+    def shows_file(self):
+        return len(self.info) > 1
 
 
 @dataclass
@@ -29,6 +35,15 @@ class Block:
     def line_at(self, offset):
         return self.line + self.text.count("\n", 0, offset)
 
+    def plain(self):
+        """The text with blanks in the place of its code spans, and then also of its links' targets."""
+        without_spans = SPAN.sub(blanks, self.text)
+        return without_spans, LINK.sub(blanks, without_spans)
+
+
+def blanks(found):
+    return re.sub(r"[^\n]", " ", found[0])
+
 
 @dataclass
 class Document:
@@ -37,6 +52,9 @@ class Document:
     headings: list = field(default_factory=list)
     fences: list = field(default_factory=list)
     blocks: list = field(default_factory=list)
+    # What a link may have behind a # to lead to one of the headings.
+    anchors: set = field(default_factory=set)
+    open_fence: Fence = None
 
     def sections(self, level):
         return [(line, title) for line, depth, title in self.headings if depth == level]
@@ -51,15 +69,16 @@ def read_document(path, text):
         if fence is not None:
             fence = step_in_fence(document, fence, mark, line)
         elif mark:
-            fence, starts_anew = Fence(number, mark[2].split()), True
+            fence, starts_anew = Fence(number, mark[1], mark[2].split()), True
         else:
             starts_anew = add_line(document, number, line, starts_anew)
+    document.open_fence = fence
     return document
 
 
 def step_in_fence(document, fence, mark, line):
     """Adds a line to an open block, or closes it."""
-    if mark and not mark[2]:
+    if mark and not mark[2] and mark[1].startswith(fence.mark):
         document.fences.append(fence)
         return None
     fence.text += line + "\n"
@@ -71,6 +90,7 @@ def add_line(document, number, line, starts_anew):
     heading = HEADING.match(line)
     if heading:
         document.headings.append((number, len(heading[1]), heading[2]))
+        document.anchors.add(re.sub(r"[^\w -]", "", heading[2].lower()).replace(" ", "-"))
     if not line.strip():
         return True
     if starts_anew or STARTS_BLOCK.match(line):
@@ -95,12 +115,11 @@ def bare(cell):
 
 
 def table_under(document, first_cell):
-    """The rows (line, cells) of the first table whose header begins with this cell."""
+    """The rows (line, cells) of the tables whose header begins with this cell."""
     rows, is_inside = [], False
     for number, line in enumerate(document.lines, 1):
         cells = cells_of(line)
-        if is_inside and not cells:
-            return rows
+        is_inside = is_inside and bool(cells)
         if is_inside and not re.fullmatch(r"[-: ]*", cells[0]):
             rows.append((number, cells))
         is_inside = is_inside or bool(cells) and bare(cells[0]) == first_cell

@@ -13,7 +13,7 @@ def check_shown_files(check):
     """Each block that names a file shows it, and README.md shows the program's stored run."""
     for document in check.documents:
         for fence in document.fences:
-            if len(fence.info) > 1:
+            if fence.shows_file:
                 check_shown(check, document.path, fence)
     check_stored_run(check, check.named("README.md"))
 
@@ -31,7 +31,7 @@ def check_stored_run(check, document):
         return
     folder = check.by_name[PROGRAM].folder
     run = [it for it in check.files if it.startswith(f"crates/{PROGRAM}/data/")] + [f"crates/{PROGRAM}/stdout"]
-    shown = [fence.info[1] for fence in document.fences if len(fence.info) > 1]
+    shown = [fence.info[1] for fence in document.fences if fence.shows_file]
     for path in run:
         if path not in shown:
             check.fault("README.md", 1, f"it doesn't show {path} of the stored run", f"add a block that opens with ```text {path}")

@@ -9,17 +9,22 @@ tools/fixtures/broken makes one wrong tree of it and has every fault that the ch
     old: TEXT       stands once in that file; \\n is an end of line
     new: TEXT       what stands there instead
     times: N        how often `new` stands there (1 if left out)
+    add: PATH       a new file, which has what `new` says
     remove: PATH    a file to take away
     program: TEXT   a shell script in the place of the built program
     fault: TEXT     a line that the check must print
 """
 
+import contextlib
+import io
 import shutil
 import subprocess
 import sys
 import tempfile
 import unittest
 from pathlib import Path
+
+import check_documents
 
 HERE = Path(__file__).resolve().parent
 GOOD, BROKEN = HERE / "fixtures/good", HERE / "fixtures/broken"
@@ -53,6 +58,9 @@ def apply(top, steps):
             new, times = None, 1
         if word == "file":
             path = text
+        elif word == "add":
+            path, old = text, ""
+            (top / path).write_text("")
         elif word == "old":
             old = text
         elif word == "new":
@@ -74,11 +82,13 @@ def put(file, old, new):
 
 def check(top):
     """The status, the faults and the notes that the check answers."""
-    ran = subprocess.run([sys.executable, "-B", HERE / "check_documents.py", top], capture_output=True, text=True)
-    *lines, last = ran.stdout.splitlines()
-    if ran.stderr or not last.startswith("documents: "):
-        raise ValueError(ran.stdout + ran.stderr)
-    return ran.returncode, [it for it in lines if not it.startswith("note: ")], [it for it in lines if it.startswith("note: ")]
+    said = io.StringIO()
+    with contextlib.redirect_stdout(said):
+        status = check_documents.main([top])
+    *lines, last = said.getvalue().splitlines()
+    if not last.startswith("documents: "):
+        raise ValueError(said.getvalue())
+    return status, [it for it in lines if not it.startswith("note: ")], [it for it in lines if it.startswith("note: ")]
 
 
 class Documents(unittest.TestCase):
@@ -121,8 +131,8 @@ class Documents(unittest.TestCase):
         steps = [("file", "crates/low/src/lib.rt"), ("old", "    assert_eq(last(three()), Some(3));\n"), ("new", "    assert_eq(last(three()), Some(3));\n"), ("times", "400")]
         status, faults, notes = self.in_tree(steps)
         self.assertEqual((status, faults), (0, []))
-        self.assertIn("note: crates/low/src/lib.rt: 427 lines, where 400 are aimed at", notes)
-        self.assertIn("note: crates/low/src/lib.rt:26: last_of_three has 400 lines, where 40 are aimed at", notes)
+        self.assertIn("note: crates/low/src/lib.rt: 431 lines, where 400 are aimed at", notes)
+        self.assertIn("note: crates/low/src/lib.rt:30: last_of_three has 400 lines, where 40 are aimed at", notes)
 
     def test_no_checkout_is_refused(self):
         with tempfile.TemporaryDirectory() as room:
