@@ -4,6 +4,7 @@ pub mod Cuts
 pub mod Calls
 pub mod Expressions
 pub mod Bounded
+pub mod Holding
 pub mod StateLemmas
 pub mod Steps
 pub mod Next

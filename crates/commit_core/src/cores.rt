@@ -78,7 +78,8 @@ impl<'w> Core<'w> {
         })
     }
 
-    /// Whether an event may happen now. It asks for each latch whether the session's call needs it.
+    /// Whether an event may happen now. It goes over a batch's updates once or twice, and at a query asks
+    /// for each latch whether one of its tensors has it.
     pub fn possible(&self, event: Event) -> bool
         ensures value { result ≡ is_possible self.now.world (progress_of self.now) event }
         ensures kept { IsKept self.now.world (progress_of self.now) }

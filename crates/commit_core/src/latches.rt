@@ -59,7 +59,8 @@ fn tensor_has(decls: &Decls, name: &Name, latch: u32) -> bool
     }
 }
 
-fn expression_needs(decls: &Decls, expression: &Expr, latch: u32) -> bool
+/// Whether one of an expression's tensors has a latch.
+pub fn expression_needs(decls: &Decls, expression: &Expr, latch: u32) -> bool
     requires decls { IsTrue (decls_are_valid decls.now) }
     ensures value { result ≡ list_any (λ a. is_latch_of decls.now latch (tensor_named decls.now a.0)) (accesses expression.now) }
 {

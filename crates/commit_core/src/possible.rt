@@ -1,14 +1,19 @@
-ghost use Rattle.std.specs.Prelude.{◌≡◌, ◌+◌, ◌==◌, not, IsTrue, length, slice_index};
+ghost use Rattle.std.specs.Prelude.{◌≡◌, ◌+◌, ◌==◌, ◌||◌, not, true, nat_le, IsTrue, length, slice_index};
+ghost use Rattle.std.specs.List.{list_all, list_any};
+ghost use Rattle.dt_model.specs.Latches.{needs, is_latch_of, latch_of_cell};
 ghost use Rattle.dt_model.specs.Runs.{call_of};
-ghost use Rattle.dt_model.specs.Verdicts.{call_is_valid};
+ghost use Rattle.dt_model.specs.Statements.{accesses};
+ghost use Rattle.dt_model.specs.Tensors.{tensor_named};
+ghost use Rattle.dt_model.specs.Verdicts.{call_is_valid, update_cell};
 ghost use Rattle.dt_model.specs.Worlds.{IsValid, decls_are_valid};
 ghost use Rattle.commit_core.specs.Events.{all_under, holds_below, can_take, can_commit, possible_by, session_in};
 ghost use Rattle.commit_core.specs.State.{seat_in};
+ghost use Rattle.commit_core.specs.Valid.{updates_are_valid};
 
 use crate::events::{Event, Seat};
-use crate::latches::commit_needs;
+use crate::latches::{cell_of, commit_needs, expression_needs};
 use crate::turns::call_of;
-use dt_model::{Call, Decls, World, latch_count};
+use dt_model::{Call, Decls, Expr, Update, World, latch_count, latch_of};
 
 /// The session that holds a latch, 0 where nobody does.
 pub fn holder_of(holders: &[u32], latch: u32) -> u32
@@ -33,17 +38,59 @@ pub fn seat_of(seats: &[Seat], session: u32) -> Seat
     }
 }
 
+/// Whether a session holds a latch, if that is below an end.
+fn holds_latch(holders: &[u32], session: u32, latch: u32, end: u32) -> bool
+    ensures value { result ≡ (nat_le end latch || slice_index holders.now latch == session) }
+{
+    end <= latch || holder_of(holders, latch) == session
+}
+
+fn holds_updates(decls: &Decls, holders: &[u32], session: u32, updates: &[Update], end: u32) -> bool
+    requires decls { IsTrue (decls_are_valid decls.now) }
+    requires cells { updates_are_valid decls.now updates.now ≡ true }
+    ensures value { result ≡ list_all (λ u. nat_le end (latch_of_cell decls.now (update_cell u)) || slice_index holders.now (latch_of_cell decls.now (update_cell u)) == session) updates.now }
+{
+    for update in updates {
+        let latch = latch_of(decls, cell_of(update));
+        if !holds_latch(holders, session, latch, end) {
+            return false;
+        }
+    }
+    true
+}
+
+fn holds_tensors(decls: &Decls, holders: &[u32], session: u32, expression: &Expr, end: u32) -> bool
+    requires decls { IsTrue (decls_are_valid decls.now) }
+    ensures value { result ≡ all_under (λ k. not (list_any (λ a. is_latch_of decls.now k (tensor_named decls.now a.0)) (accesses expression.now)) || slice_index holders.now k == session) end }
+{
+    for latch in 0..end {
+        if expression_needs(decls, expression, latch) && holder_of(holders, latch) != session {
+            return false;
+        }
+    }
+    true
+}
+
+/// Whether a session holds each latch below an end that the call needs. A batch is gone over once.
+fn holds_own(decls: &Decls, holders: &[u32], session: u32, call: &Call, end: u32) -> bool
+    requires decls { IsTrue (decls_are_valid decls.now) }
+    requires call { IsTrue (call_is_valid decls.now call.now) }
+    ensures value { result ≡ all_under (λ k. not (needs decls.now call.now k) || slice_index holders.now k == session) end }
+{
+    match call {
+        Call::Get(cell) => holds_latch(holders, session, latch_of(decls, cell), end),
+        Call::Batch(updates) => holds_updates(decls, holders, session, updates.as_slice(), end),
+        Call::Query(stmt) => holds_tensors(decls, holders, session, &stmt.right, end),
+    }
+}
+
 fn holds_below(decls: &Decls, holders: &[u32], session: u32, call: &Call, end: u32) -> bool
     requires decls { IsTrue (decls_are_valid decls.now) }
     requires call { IsTrue (call_is_valid decls.now call.now) }
     ensures value { result ≡ holds_below decls.now (slice_index holders.now) session call.now end }
 {
-    for latch in 0..end {
-        if commit_needs(decls, call, latch) && holder_of(holders, latch) != session {
-            return false;
-        }
-    }
-    true
+    holds_latch(holders, session, latch_count(decls), end)
+        && holds_own(decls, holders, session, call, end)
 }
 
 /// Whether a session holds no latch.

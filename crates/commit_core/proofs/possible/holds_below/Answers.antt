@@ -1,15 +1,23 @@
-use Rattle.std.proofs.Common.{◌≡◌, sym, arith, false, true, Bool, ◌≢◌, ℕ, ◌∙◌}
-use Rattle.std.specs.Prelude.{slice_index, not, ◌==◌, ◌||◌}
-use Rattle.std.proofs.lemmas.Bool.Decides.{nat_tests}
-use Rattle.commit_core.specs.Machine.{commit_needs}
-use Rattle.commit_core.proofs.Bounded.{all_under-fails}
+use Rattle.std.proofs.Common.{◌≡◌, ◌∙◌, ap, sym, true, false, Bool, ℕ}
+use Rattle.std.specs.Prelude.{slice_index, nat_le, not, ◌||◌, ◌&&◌, ◌==◌}
+use Rattle.dt_model.specs.Latches.{needs}
+use Rattle.commit_core.specs.Machine.{journal_latch}
+use Rattle.commit_core.specs.Events.{all_under}
+use Rattle.commit_core.proofs.Holding.{holds-journal}
 use Rattle.commit_core.proofs.possible.holds_below.Goals as goal
 
-missing : (needed : Bool) (h s : ℕ) → needed ≡ true → h ≢ s → (not needed || h == s) ≡ false
-missing needed h s e n = grind (arith, nat_tests)
+pub returns-then-holds_latch : goal.returns-then-holds_latch
+returns-then-holds_latch c =
+    let holder : ℕ → ℕ = slice_index c.args.holders.now in
+    let own : Bool = all_under (λ k. not (needs c.args.decls.now c.args.call.now k) || holder k == c.args.session) c.args.end in
+    let held : true ≡ (nat_le c.args.end (journal_latch c.args.decls.now) || holder (journal_latch c.args.decls.now) == c.args.session) =
+    sym c.if-holds_latch.true ∙ c.holds_latch.ensures.value ∙ ap (λ l. nat_le c.args.end l || holder l == c.args.session) c.latch_count.ensures.value in
+    record { value = c.holds_own.ensures.value ∙ ap (λ b. b && own) held ∙ holds-journal c.args.decls.now holder c.args.session c.args.end c.args.call.now }
 
-pub returns-then-holder_of-session : goal.returns-then-holder_of-session
-returns-then-holder_of-session c =
-    let needed : commit_needs c.args.decls.now c.args.call.now c.loop-latch.latch ≡ true = sym c.commit_needs.ensures.value ∙ c.if-commit_needs.true in
-    let other : slice_index c.args.holders.now c.loop-latch.latch ≢ c.args.session = rw (← c.holder_of.ensures.value) c.if-holder_of-session.true in
-    record { value = sym (all_under-fails _ _ c.loop-latch.latch c.loop-latch-test.true (missing _ _ _ needed other)) }
+pub returns-else-holds_latch : goal.returns-else-holds_latch
+returns-else-holds_latch c =
+    let holder : ℕ → ℕ = slice_index c.args.holders.now in
+    let own : Bool = all_under (λ k. not (needs c.args.decls.now c.args.call.now k) || holder k == c.args.session) c.args.end in
+    let lacks : false ≡ (nat_le c.args.end (journal_latch c.args.decls.now) || holder (journal_latch c.args.decls.now) == c.args.session) =
+    sym c.if-holds_latch.false ∙ c.holds_latch.ensures.value ∙ ap (λ l. nat_le c.args.end l || holder l == c.args.session) c.latch_count.ensures.value in
+    record { value = c.if-holds_latch.false ∙ ap (λ b. b && own) lacks ∙ holds-journal c.args.decls.now holder c.args.session c.args.end c.args.call.now }
