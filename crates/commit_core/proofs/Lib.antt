@@ -1,6 +1,7 @@
 pub mod Places
 pub mod TensorLemmas
 pub mod Cuts
+pub mod LineLemmas
 pub mod Calls
 pub mod Expressions
 pub mod Bounded

@@ -37,7 +37,7 @@ fn place_of(cells: &[(Coords, u64)], at: &Coords) -> Result<usize, usize>
 }
 
 /// The order of coordinates, from the first mode on.
-fn compare(coords: &Coords, other: &Coords) -> Ordering
+pub fn compare(coords: &Coords, other: &Coords) -> Ordering
     ensures order { result ≡ slice_cmp nat_cmp coords.now other.now }
 {
     coords.as_slice().cmp(&other.as_slice())

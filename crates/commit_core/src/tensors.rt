@@ -1,12 +1,13 @@
 ghost use Rattle.std.specs.Prelude.{◌≡◌, ℕ, ◌+◌, ◌<◌, ◌≤◌, length, fold, slice_index_or, All, IfOk, OnOk};
 ghost use Rattle.std.specs.List.{enumerate_from};
+ghost use Rattle.std.specs.List.Sorted.{IsPermutation};
 ghost use Rattle.dt_model.specs.Contents.{no_cells, with_cell, with_update, with_updates};
 ghost use Rattle.dt_model.specs.Runs.{with_lines};
 ghost use Rattle.dt_model.specs.Verdicts.{update_cell};
 ghost use Rattle.commit_core.specs.Cells.{contents_of};
 ghost use Rattle.commit_core.specs.Roomy.{Roomy, all_cells, HaveRoom};
 
-use crate::cells::CellList;
+use crate::cells::{CellList, compare};
 use dt_model::{Coords, NoMemory, Pairs, Update};
 use std::alloc::Global;
 
@@ -50,8 +51,28 @@ fn put(tensors: &mut [CellList], tensor: usize, at: &Coords, value: u64)
     tensors[tensor].put(at, value);
 }
 
-/// Adds the loaded lines of a tensor.
-fn load(tensors: &mut [CellList], tensor: usize, lines: &[(Coords, u64)]) -> Result<(), NoMemory>
+/// The lines in ascending order of their coordinates.
+fn sorted(alloc: Global, lines: &[(Coords, u64)]) -> Result<Vec<(Coords, u64)>, NoMemory>
+    ensures permutation { IfOk result (λ sorted. IsPermutation lines.now sorted.items) }
+{
+    let mut sorted = Vec::new(alloc);
+    for (at, value) in lines {
+        if sorted.push((at.copy(), *value)).is_err() {
+            return Err(NoMemory);
+        }
+    }
+    match sorted.sort_by(|line, other| compare(&line.0, &other.0)) {
+        Ok(()) => Ok(sorted),
+        Err(_) => Err(NoMemory),
+    }
+}
+
+/// Adds each line to its cell. Where the lines ascend, each new cell goes to the end.
+fn add_lines(
+    tensors: &mut [CellList],
+    tensor: usize,
+    lines: &[(Coords, u64)],
+) -> Result<(), NoMemory>
     requires within { tensor < length tensors.old }
     ensures contents { OnOk result (contents_of (all_cells tensors.new) ≡ with_lines (contents_of (all_cells tensors.old)) tensor lines.now) }
 {
@@ -61,6 +82,20 @@ fn load(tensors: &mut [CellList], tensor: usize, lines: &[(Coords, u64)]) -> Res
         put(tensors, tensor, at, sum);
     }
     Ok(())
+}
+
+/// Adds the loaded lines of a tensor, in any order.
+fn load(
+    alloc: Global,
+    tensors: &mut [CellList],
+    tensor: usize,
+    lines: &[(Coords, u64)],
+) -> Result<(), NoMemory>
+    requires within { tensor < length tensors.old }
+    ensures contents { OnOk result (contents_of (all_cells tensors.new) ≡ with_lines (contents_of (all_cells tensors.old)) tensor lines.now) }
+{
+    let ascending = sorted(alloc, lines)?;
+    add_lines(tensors, tensor, ascending.as_slice())
 }
 
 fn apply(tensors: &mut [CellList], update: &Update)
@@ -94,6 +129,7 @@ pub fn apply_all(tensors: &mut [CellList], updates: &[Update])
 }
 
 /// The cells of each tensor, from tensor 0 on, after its loaded lines. Each line is added to its cell.
+/// A copy of the lines is sorted first, so that no new cell moves another.
 pub fn loaded(alloc: Global, base: &[Pairs]) -> Result<Vec<CellList>, NoMemory>
     ensures len { IfOk result (λ tensors. length tensors.items ≡ length base.now) }
     ensures contents { IfOk result (λ tensors. contents_of (all_cells tensors.items) ≡ fold (λ m p. with_lines m p.0 p.1) no_cells (enumerate_from 0 base.now)) }
@@ -103,7 +139,7 @@ pub fn loaded(alloc: Global, base: &[Pairs]) -> Result<Vec<CellList>, NoMemory>
         if tensors.push(CellList::new(alloc)).is_err() {
             return Err(NoMemory);
         }
-        load(&mut tensors, tensor, lines.as_slice())?;
+        load(alloc, &mut tensors, tensor, lines.as_slice())?;
     }
     Ok(tensors)
 }
