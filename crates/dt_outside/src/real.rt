@@ -19,7 +19,7 @@ pub struct FileShelf<R> {
 impl<R> FileShelf<R> {
     /// The files of the system, read through a runtime. No fetch has failed yet.
     pub fn new(rt: R) -> FileShelf<R>
-        ensures fresh { result.faults ≡ 0 }
+        ensures fresh { (result.faults ≡ 0) × (result.blamed.items ≡ []) }
     {
         FileShelf {
             rt,
