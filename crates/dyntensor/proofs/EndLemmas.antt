@@ -112,6 +112,6 @@ ending_run manifest name files b a blamed w ending is asked run = subst (λ m. H
     named : (ending : Ending) → IsRunEnding w ending → HasCauseIn (seen files b a blamed) name (outcome_of ending)
     named (endings.Report text) h = record { work = record { world = w; printed = [] }; asked = asked; printed = h }
     named endings.Usage h = absurd h
-    named (endings.Refused text) h = absurd h
+    named (endings.Refused fault) h = absurd h
     named (endings.Unfetched file) h = absurd h
     named endings.NoMemory h = tt

@@ -18,6 +18,6 @@ outcome_of endings.NoMemory = OutOfMemory
 abbrev pub IsRunEnding : World → Ending → Type 0
 IsRunEnding w (endings.Report text) = PrintsRun w [] text.items
 IsRunEnding w endings.Usage = ⊥
-IsRunEnding w (endings.Refused text) = ⊥
+IsRunEnding w (endings.Refused fault) = ⊥
 IsRunEnding w (endings.Unfetched file) = ⊥
 IsRunEnding w endings.NoMemory = Unit {0}
