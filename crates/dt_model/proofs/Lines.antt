@@ -34,8 +34,8 @@ count_of-lines : (w : World) (es : List Entry) (s : ℕ) → IsOrder w es → co
 count_of-lines w es s o =
     let lines : ℕ = length (get_or w.scripts (s - 1) []) in
     let each : Each (IsBetween s 0 lines) es = Each-both (λ e. (1 ≤ e.turn.number) × (e.turn.number ≤ 65536)) (λ e. call_of w e.turn.session e.turn.number ≡ Some e.call) (IsBetween s 0 lines) es
-        (λ e number is own. (omega (arith, number.0), subst (λ k. e.turn.number ≤ length (get_or w.scripts (k - 1) [])) own (call_of-within w e.turn.session e.turn.number e.call is)))
-        (Each-from_All (λ e. (1 ≤ e.turn.number) × (e.turn.number ≤ 65536)) es o.legal.numbers) (Each-from_All (λ e. call_of w e.turn.session e.turn.number ≡ Some e.call) es o.called) in
+    (λ e number is own. (omega (arith, number.0), subst (λ k. e.turn.number ≤ length (get_or w.scripts (k - 1) [])) own (call_of-within w e.turn.session e.turn.number e.call is)))
+    (Each-from_All (λ e. (1 ≤ e.turn.number) × (e.turn.number ≤ 65536)) es o.legal.numbers) (Each-from_All (λ e. call_of w e.turn.session e.turn.number ≡ Some e.call) es o.called) in
     let most = count_of-between s 0 lines es (omega arith) each (EachRises-from_AllPairs es o.legal.rising) in
     omega (arith, most)
 
@@ -47,7 +47,7 @@ length-le_lines scripts (suc k) es l h c =
     let next : k + 1 ≡ suc k = omega arith in
     let own : count_of (suc k) es ≤ length (get_or scripts k []) = subst (λ j. count_of j es ≤ length (get_or scripts k [])) next (c k) in
     let others : length (without (suc k) es) ≤ sum_by length (take k scripts) = length-le_lines scripts k (without (suc k) es) (omega arith) (without_last k (suc k) es (omega arith) h)
-        (λ s. let less = count_of-without (s + 1) (suc k) es in let most = c s in omega (arith, less, most)) in
+    (λ s. let less = count_of-without (s + 1) (suc k) es in let most = c s in omega (arith, less, most)) in
     let all : sum_by length (take (suc k) scripts) ≡ sum_by length (take k scripts) + length (get_or scripts k []) = subst (λ j. sum_by length (take j scripts) ≡ sum_by length (take k scripts) + length (get_or scripts k [])) next (sum_by_more length scripts k [] (omega arith)) in
     omega (arith, parts, own, others, all)
 
@@ -55,5 +55,5 @@ length-le_lines scripts (suc k) es l h c =
 pub length-IsOrder_lines : (w : World) (es : List Entry) → IsOrder w es → length es ≤ sum_by length w.scripts
 length-IsOrder_lines w es o =
     let first = length-le_lines w.scripts (length w.scripts) es (omega arith) (Each-from_All (IsWithin (length w.scripts)) es o.legal.sessions)
-        (λ s. subst (λ k. count_of (s + 1) es ≤ length (get_or w.scripts k [])) (omega arith) (count_of-lines w es (s + 1) o)) in
+    (λ s. subst (λ k. count_of (s + 1) es ≤ length (get_or w.scripts k [])) (omega arith) (count_of-lines w es (s + 1) o)) in
     omega (arith, first, sum_by-take-le length w.scripts (length w.scripts))
