@@ -50,15 +50,15 @@ not_below w p s low k call below need other = elim (nat_le low k) as (λ b. nat_
 ] refl
 
 -- a session with a call can do something, or lacks a latch that another holds
-one_step : (w : World) (p : Progress) → Holds w p.machine.holder p.seat → (s low : ℕ) (call : Call) → call_of w s (p.seat s).number ≡ Some call
-    → ((p.seat s).committed ≡ false → holds_below w.decls p.machine.holder s call low ≡ true) → GoesOn w p ⊎ ((k : ℕ) × Lacks w p s low k)
-one_step w p h s low call is below = elim (cases_Bool (p.seat s).committed) [
+one_step : (w : World) (p : Progress) → Holds w p.machine.holder p.position → (s low : ℕ) (call : Call) → call_of w s (p.position s).number ≡ Some call
+    → ((p.position s).committed ≡ false → holds_below w.decls p.machine.holder s call low ≡ true) → GoesOn w p ⊎ ((k : ℕ) × Lacks w p s low k)
+one_step w p h s low call is below = elim (cases_Bool (p.position s).committed) [
   | inl committed ↦
-      let one : 1 ≤ s = is_session w s (p.seat s).number call is in
+      let one : 1 ≤ s = is_session w s (p.position s).number call is in
       let held = h.busy s one committed in
-      inl (Give s held.0, tt, ap (possible_by w.decls p.machine.holder p.seat (Give s held.0)) is ∙ give_test (p.seat s).committed (p.machine.holder held.0) s committed held.1)
+      inl (Give s held.0, tt, ap (possible_by w.decls p.machine.holder p.position (Give s held.0)) is ∙ give_test (p.position s).committed (p.machine.holder held.0) s committed held.1)
   | inr open' ↦ elim (first_failing (λ k. not (commit_needs w.decls call k) || p.machine.holder k == s) (journal_latch w.decls + 1)) [
-    | inl all ↦ inl (Commit s, tt, ap (possible_by w.decls p.machine.holder p.seat (Commit s)) is ∙ commit_test (p.seat s).committed (holds_below w.decls p.machine.holder s call (journal_latch w.decls + 1)) open' all)
+    | inl all ↦ inl (Commit s, tt, ap (possible_by w.decls p.machine.holder p.position (Commit s)) is ∙ commit_test (p.position s).committed (holds_below w.decls p.machine.holder s call (journal_latch w.decls + 1)) open' all)
     | inr found ↦
         let lacks = missing (commit_needs w.decls call found.0) (p.machine.holder found.0) s found.2 in
         let within : found.0 < journal_latch w.decls + 1 = found.1 in
@@ -66,8 +66,8 @@ one_step w p h s low call is below = elim (cases_Bool (p.seat s).committed) [
           | inl free ↦ inl (
             Take s found.0,
             tt,
-            ap (possible_by w.decls p.machine.holder p.seat (Take s found.0)) is
-                ∙ take_test (p.seat s).committed (commit_needs w.decls call found.0) (holds_below w.decls p.machine.holder s call found.0) found.0 (journal_latch w.decls) (p.machine.holder found.0) open' (omega arith) lacks.0 free found.3,
+            ap (possible_by w.decls p.machine.holder p.position (Take s found.0)) is
+                ∙ take_test (p.position s).committed (commit_needs w.decls call found.0) (holds_below w.decls p.machine.holder s call found.0) found.0 (journal_latch w.decls) (p.machine.holder found.0) open' (omega arith) lacks.0 free found.3,
           )
           | inr taken ↦ inr (found.0, record { other = some_one (p.machine.holder found.0) taken; within = within; above = not_below w p s low found.0 call (below open') lacks.0 lacks.1 })
         ]
@@ -75,7 +75,7 @@ one_step w p h s low call is below = elim (cases_Bool (p.seat s).committed) [
 ]
 
 -- who holds a latch before its commit holds all that it needs up to it
-holds_up_to : (w : World) (p : Progress) → Holds w p.machine.holder p.seat → (s k : ℕ) (call : Call) → call_of w s (p.seat s).number ≡ Some call → p.machine.holder k ≡ s → (p.seat s).committed ≡ false → holds_below w.decls p.machine.holder s call (k + 1) ≡ true
+holds_up_to : (w : World) (p : Progress) → Holds w p.machine.holder p.position → (s k : ℕ) (call : Call) → call_of w s (p.position s).number ≡ Some call → p.machine.holder k ≡ s → (p.position s).committed ≡ false → holds_below w.decls p.machine.holder s call (k + 1) ≡ true
 holds_up_to w p h s k call is own open' =
     let first = h.first s k call is open' own in
     holds_below-from w.decls p.machine.holder s call (k + 1) (λ i low need. elim (cases_eq i k) [
@@ -87,8 +87,8 @@ holds_up_to w p h s k call is own open' =
     less i low other = omega arith
 
 -- the fewer latches are left above those that it holds, the sooner the search ends
-goes_from : (w : World) (p : Progress) → Holds w p.machine.holder p.seat → (fuel s low : ℕ) (call : Call) → call_of w s (p.seat s).number ≡ Some call
-    → ((p.seat s).committed ≡ false → holds_below w.decls p.machine.holder s call low ≡ true) → journal_latch w.decls + 1 ≤ low + fuel → GoesOn w p
+goes_from : (w : World) (p : Progress) → Holds w p.machine.holder p.position → (fuel s low : ℕ) (call : Call) → call_of w s (p.position s).number ≡ Some call
+    → ((p.position s).committed ≡ false → holds_below w.decls p.machine.holder s call low ≡ true) → journal_latch w.decls + 1 ≤ low + fuel → GoesOn w p
 goes_from w p h zero s low call is below enough = elim (one_step w p h s low call is below) [
   | inl found ↦ found
   | inr lacks ↦ let within : lacks.0 < journal_latch w.decls + 1 = lacks.1.within in let above : low ≤ lacks.0 = lacks.1.above in absurd (omega arith)
@@ -102,5 +102,5 @@ goes_from w p h (suc rest) s low call is below enough = elim (one_step w p h s l
 ]
 
 -- while a session has a call, some take, commit or give is possible
-pub goes_on : (w : World) (p : Progress) → Holds w p.machine.holder p.seat → (s : ℕ) (call : Call) → call_of w s (p.seat s).number ≡ Some call → GoesOn w p
+pub goes_on : (w : World) (p : Progress) → Holds w p.machine.holder p.position → (s : ℕ) (call : Call) → call_of w s (p.position s).number ≡ Some call → GoesOn w p
 goes_on w p h s call is = goes_from w p h (journal_latch w.decls + 1) s 0 call is (λ c. refl) (omega arith)

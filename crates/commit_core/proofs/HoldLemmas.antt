@@ -9,22 +9,22 @@ use Rattle.dt_model.specs.declared.replies.World.{World}
 use Rattle.dt_model.specs.Runs.{call_of}
 use Rattle.dt_model.specs.Latches.{needs}
 use Rattle.dt_model.proofs.TestLemmas.{both_true}
-use Rattle.commit_core.specs.declared.events.Seat.{Seat}
+use Rattle.commit_core.specs.declared.events.Position.{Position}
 use Rattle.commit_core.specs.Machine.{journal_latch, commit_needs, with_holder}
-use Rattle.commit_core.specs.Events.{holds_below, holds_none, can_take, with_seat, without_session, seat_after}
+use Rattle.commit_core.specs.Events.{holds_below, holds_none, can_take, with_position, without_session, position_after}
 use Rattle.commit_core.proofs.Bounded.{all_under-at, all_under-from, first_failing}
 use Rattle.commit_core.proofs.Steps.{is_session}
-use Rattle.commit_core.proofs.TurnLemmas.{seat_same, seat_other, number_same}
+use Rattle.commit_core.proofs.TurnLemmas.{position_same, position_other, number_same}
 
-pub record Holds (w : World) (holder : ℕ → ℕ) (seat : ℕ → Seat) : Type 0 where
+pub record Holds (w : World) (holder : ℕ → ℕ) (position : ℕ → Position) : Type 0 where
   -- nobody holds a latch that the World doesn't have
   pub within : (l : ℕ) → journal_latch w.decls < l → holder l ≡ 0
   -- who holds a latch has a current call
-  pub held : (s l : ℕ) → 1 ≤ s → holder l ≡ s → (call : Call) × (call_of w s (seat s).number ≡ Some call)
+  pub held : (s l : ℕ) → 1 ≤ s → holder l ≡ s → (call : Call) × (call_of w s (position s).number ≡ Some call)
   -- before its commit a session holds the first of its needed latches
-  pub first : (s l : ℕ) (call : Call) → call_of w s (seat s).number ≡ Some call → (seat s).committed ≡ false → holder l ≡ s → (commit_needs w.decls call l ≡ true) × (holds_below w.decls holder s call l ≡ true)
+  pub first : (s l : ℕ) (call : Call) → call_of w s (position s).number ≡ Some call → (position s).committed ≡ false → holder l ≡ s → (commit_needs w.decls call l ≡ true) × (holds_below w.decls holder s call l ≡ true)
   -- after its commit a session holds a latch
-  pub busy : (s : ℕ) → 1 ≤ s → (seat s).committed ≡ true → (l : ℕ) × (holder l ≡ s)
+  pub busy : (s : ℕ) → 1 ≤ s → (position s).committed ≡ true → (l : ℕ) × (holder l ≡ s)
 
 -- ---- holders
 
@@ -74,17 +74,17 @@ pub not_committed : (b : Bool) → not b ≡ true → b ≡ false
 not_committed true e = cc
 not_committed false e = refl
 
-pub record Takes (d : Decls) (holder : ℕ → ℕ) (seat : Seat) (s l : ℕ) (call : Call) : Type 0 where
-  pub uncommitted : seat.committed ≡ false
+pub record Takes (d : Decls) (holder : ℕ → ℕ) (position : Position) (s l : ℕ) (call : Call) : Type 0 where
+  pub uncommitted : position.committed ≡ false
   pub within : l ≤ journal_latch d
   pub needed : commit_needs d call l ≡ true
   pub free : holder l ≡ 0
   pub below : holds_below d holder s call l ≡ true
 
-pub takes_when : (d : Decls) (holder : ℕ → ℕ) (seat : Seat) (s l : ℕ) (call : Call) → can_take d holder seat s l call ≡ true → Takes d holder seat s l call
-takes_when d holder seat s l call h =
-    let p = four_true (not seat.committed) (nat_le l (journal_latch d)) (commit_needs d call l) (holder l == 0) (holds_below d holder s call l) h in
-    record { uncommitted = not_committed seat.committed p.0; within = le_of l (journal_latch d) p.1; needed = p.2; free = eq_of (holder l) p.3; below = p.4 }
+pub takes_when : (d : Decls) (holder : ℕ → ℕ) (position : Position) (s l : ℕ) (call : Call) → can_take d holder position s l call ≡ true → Takes d holder position s l call
+takes_when d holder position s l call h =
+    let p = four_true (not position.committed) (nat_le l (journal_latch d)) (commit_needs d call l) (holder l == 0) (holds_below d holder s call l) h in
+    record { uncommitted = not_committed position.committed p.0; within = le_of l (journal_latch d) p.1; needed = p.2; free = eq_of (holder l) p.3; below = p.4 }
   where
     le_of : (a b : ℕ) → nat_le a b ≡ true → a ≤ b
     le_of a b e = grind (arith, nat_tests)
@@ -97,29 +97,29 @@ takes_when d holder seat s l call h =
 same_call : (o : Option Call) (a b : Call) → o ≡ Some a → o ≡ Some b → a ≡ b
 same_call o a b p q = cc
 
-pub Holds-take : (w : World) (holder : ℕ → ℕ) (seat : ℕ → Seat) (s l : ℕ) (call : Call) → call_of w s (seat s).number ≡ Some call → Takes w.decls holder (seat s) s l call
-    → Holds w holder seat → Holds w (with_holder holder l s) seat
-Holds-take w holder seat s l call is t h =
-    let some : 1 ≤ s = is_session w s (seat s).number call is in
+pub Holds-take : (w : World) (holder : ℕ → ℕ) (position : ℕ → Position) (s l : ℕ) (call : Call) → call_of w s (position s).number ≡ Some call → Takes w.decls holder (position s) s l call
+    → Holds w holder position → Holds w (with_holder holder l s) position
+Holds-take w holder position s l call is t h =
+    let some : 1 ≤ s = is_session w s (position s).number call is in
     let kept : (k j : ℕ) → 1 ≤ j → holder k ≡ j → with_holder holder l s k ≡ j = λ k j one e. holder_other holder l s k (not_free k j one e) ∙ e in
     record {
       within = λ k past. let other : k ≢ l = above k past in holder_other holder l s k other ∙ h.within k past;
       held = λ j k one e. elim (cases_eq k l) [
-        | inl same ↦ let own : s ≡ j = sym (holder_same holder l s k same) ∙ e in subst (λ i. (c : Call) × (call_of w i (seat i).number ≡ Some c)) own (call, is)
+        | inl same ↦ let own : s ≡ j = sym (holder_same holder l s k same) ∙ e in subst (λ i. (c : Call) × (call_of w i (position i).number ≡ Some c)) own (call, is)
         | inr other ↦ h.held j k one (sym (holder_other holder l s k other) ∙ e)
       ];
       first = λ j k c is' open' e. elim (cases_eq k l) [
         | inl same ↦
             let own : s ≡ j = sym (holder_same holder l s k same) ∙ e in
-            let at : call_of w s (seat s).number ≡ Some c = subst (λ i. call_of w i (seat i).number ≡ Some c) (sym own) is' in
-            let one : call ≡ c = same_call (call_of w s (seat s).number) call c is at in
+            let at : call_of w s (position s).number ≡ Some c = subst (λ i. call_of w i (position i).number ≡ Some c) (sym own) is' in
+            let one : call ≡ c = same_call (call_of w s (position s).number) call c is at in
             subst (λ i. (commit_needs w.decls c k ≡ true) × (holds_below w.decls (with_holder holder l s) i c k ≡ true)) own
             (subst (λ x. (commit_needs w.decls x k ≡ true) × (holds_below w.decls (with_holder holder l s) s x k ≡ true)) one
             (subst (λ m. (commit_needs w.decls call m ≡ true) × (holds_below w.decls (with_holder holder l s) s call m ≡ true)) (sym same)
             (t.needed, holds_below-from w.decls (with_holder holder l s) s call l (λ i low need. kept i s some (holds_below-at w.decls holder s call l i t.below low need)))))
         | inr other ↦
             let old = h.first j k c is' open' (sym (holder_other holder l s k other) ∙ e) in
-            let one : 1 ≤ j = is_session w j (seat j).number c is' in
+            let one : 1 ≤ j = is_session w j (position j).number c is' in
             (old.0, holds_below-from w.decls (with_holder holder l s) j c k (λ i low need. kept i j one (holds_below-at w.decls holder j c k i old.1 low need)))
       ];
       busy = λ j one c. let old = h.busy j one c in (old.0, kept old.0 j one old.1);
@@ -138,28 +138,28 @@ journal_needed d call = or_true (needs d call (journal_latch d)) (journal_latch 
     or_true true n = refl
     or_true false n = grind (arith, nat_tests)
 
-pub Holds-commit : (w : World) (holder : ℕ → ℕ) (seat : ℕ → Seat) (s : ℕ) (call : Call) → call_of w s (seat s).number ≡ Some call → holds_below w.decls holder s call (journal_latch w.decls + 1) ≡ true
-    → Holds w holder seat → Holds w holder (with_seat seat s (record { number = (seat s).number; committed = true }))
-Holds-commit w holder seat s call is all h =
-    let x : Seat = record { number = (seat s).number; committed = true } in
-    let same : (k : ℕ) → (with_seat seat s x k).number ≡ (seat k).number = λ k. number_same seat s x k refl in
+pub Holds-commit : (w : World) (holder : ℕ → ℕ) (position : ℕ → Position) (s : ℕ) (call : Call) → call_of w s (position s).number ≡ Some call → holds_below w.decls holder s call (journal_latch w.decls + 1) ≡ true
+    → Holds w holder position → Holds w holder (with_position position s (record { number = (position s).number; committed = true }))
+Holds-commit w holder position s call is all h =
+    let x : Position = record { number = (position s).number; committed = true } in
+    let same : (k : ℕ) → (with_position position s x k).number ≡ (position k).number = λ k. number_same position s x k refl in
     record {
       within = h.within;
       held = λ j k one e. subst (λ n. (c : Call) × (call_of w j n ≡ Some c)) (sym (same j)) (h.held j k one e);
       first = λ j k c is' open' e. elim (cases_eq j s) [
-        | inl own ↦ let wrong : true ≡ false = ap (λ y. y.committed) (sym (seat_same seat s x j own)) ∙ open' in cc
-        | inr other ↦ h.first j k c (subst (λ n. call_of w j n ≡ Some c) (same j) is') (ap (λ y. y.committed) (sym (seat_other seat s x j other)) ∙ open') e
+        | inl own ↦ let wrong : true ≡ false = ap (λ y. y.committed) (sym (position_same position s x j own)) ∙ open' in cc
+        | inr other ↦ h.first j k c (subst (λ n. call_of w j n ≡ Some c) (same j) is') (ap (λ y. y.committed) (sym (position_other position s x j other)) ∙ open') e
       ];
       busy = λ j one c. elim (cases_eq j s) [
         | inl own ↦ (journal_latch w.decls, holds_below-at w.decls holder s call (journal_latch w.decls + 1) (journal_latch w.decls) all (omega arith) (journal_needed w.decls call) ∙ sym own)
-        | inr other ↦ h.busy j one (ap (λ y. y.committed) (sym (seat_other seat s x j other)) ∙ c)
+        | inr other ↦ h.busy j one (ap (λ y. y.committed) (sym (position_other position s x j other)) ∙ c)
       ];
     }
 
 -- a committed session gives a latch and still holds another
-pub Holds-give : (w : World) (holder : ℕ → ℕ) (seat : ℕ → Seat) (s l : ℕ) → 1 ≤ s → (seat s).committed ≡ true → holder l ≡ s → holds_none w.decls (with_holder holder l 0) s ≡ false
-    → Holds w holder seat → Holds w (with_holder holder l 0) seat
-Holds-give w holder seat s l some c own more h =
+pub Holds-give : (w : World) (holder : ℕ → ℕ) (position : ℕ → Position) (s l : ℕ) → 1 ≤ s → (position s).committed ≡ true → holder l ≡ s → holds_none w.decls (with_holder holder l 0) s ≡ false
+    → Holds w holder position → Holds w (with_holder holder l 0) position
+Holds-give w holder position s l some c own more h =
     let left : (k j : ℕ) → 1 ≤ j → with_holder holder l 0 k ≡ j → holder k ≡ j = λ k j one e. elim (cases_eq k l) [
       | inl same ↦ let nobody : with_holder holder l 0 k ≡ 0 = holder_same holder l 0 k same in absurd (omega arith)
       | inr other ↦ sym (holder_other holder l 0 k other) ∙ e
@@ -172,7 +172,7 @@ Holds-give w holder seat s l some c own more h =
       ];
       held = λ j k one e. h.held j k one (left k j one e);
       first = λ j k call is open' e.
-          let one : 1 ≤ j = is_session w j (seat j).number call is in
+          let one : 1 ≤ j = is_session w j (position j).number call is in
           let old = h.first j k call is open' (left k j one e) in
           (old.0, holds_below-from w.decls (with_holder holder l 0) j call k (λ i low need. kept i j (not_self j open') (holds_below-at w.decls holder j call k i old.1 low need)));
       busy = λ j one past. elim (cases_eq j s) [
@@ -184,8 +184,8 @@ Holds-give w holder seat s l some c own more h =
     not_given : (k j : ℕ) → j ≢ s → holder k ≡ j → k ≢ l
     not_given k j not_own e same = not_own (sym e ∙ ap holder same ∙ own)
 
-    not_self : (j : ℕ) → (seat j).committed ≡ false → j ≢ s
-    not_self j open' same = let wrong : true ≡ false = sym c ∙ ap (λ i. (seat i).committed) (sym same) ∙ open' in cc
+    not_self : (j : ℕ) → (position j).committed ≡ false → j ≢ s
+    not_self j open' same = let wrong : true ≡ false = sym c ∙ ap (λ i. (position i).committed) (sym same) ∙ open' in cc
 
     equal : (a b : ℕ) → not (a == b) ≡ false → a ≡ b
     equal a b e = grind (arith, nat_tests)
@@ -197,14 +197,14 @@ Holds-give w holder seat s l some c own more h =
     ]
 
 -- a session that holds nothing any more goes on, and all other latches have their holders
-pub Holds-finish : (w : World) (holder new : ℕ → ℕ) (seat : ℕ → Seat) (s : ℕ) (x : Seat) → ((k : ℕ) → new k ≢ s) → ((k : ℕ) → holder k ≡ s → new k ≡ 0) → ((k : ℕ) → holder k ≢ s → new k ≡ holder k) → x.committed ≡ false
-    → Holds w holder seat → Holds w new (with_seat seat s x)
-Holds-finish w holder new seat s x nothing freed kept open' h =
+pub Holds-finish : (w : World) (holder new : ℕ → ℕ) (position : ℕ → Position) (s : ℕ) (x : Position) → ((k : ℕ) → new k ≢ s) → ((k : ℕ) → holder k ≡ s → new k ≡ 0) → ((k : ℕ) → holder k ≢ s → new k ≡ holder k) → x.committed ≡ false
+    → Holds w holder position → Holds w new (with_position position s x)
+Holds-finish w holder new position s x nothing freed kept open' h =
     let left : (k j : ℕ) → 1 ≤ j → new k ≡ j → holder k ≡ j = λ k j one e. elim (cases_eq (holder k) s) [
       | inl own ↦ let nobody : new k ≡ 0 = freed k own in absurd (omega arith)
       | inr other ↦ sym (kept k other) ∙ e
     ] in
-    let rest : (j : ℕ) → j ≢ s → with_seat seat s x j ≡ seat j = seat_other seat s x in
+    let rest : (j : ℕ) → j ≢ s → with_position position s x j ≡ position j = position_other position s x in
     let apart : (k j : ℕ) → new k ≡ j → j ≢ s = λ k j e same. nothing k (e ∙ same) in
     record {
       within = λ k past. elim (cases_eq (holder k) s) [
@@ -214,11 +214,11 @@ Holds-finish w holder new seat s x nothing freed kept open' h =
       held = λ j k one e. subst (λ y. (c : Call) × (call_of w j y.number ≡ Some c)) (sym (rest j (apart k j e))) (h.held j k one (left k j one e));
       first = λ j k call is opened e.
           let not_own : j ≢ s = apart k j e in
-          let one : 1 ≤ j = is_session w j (with_seat seat s x j).number call is in
+          let one : 1 ≤ j = is_session w j (with_position position s x j).number call is in
           let old = h.first j k call (subst (λ y. call_of w j y.number ≡ Some call) (rest j not_own) is) (ap (λ y. y.committed) (sym (rest j not_own)) ∙ opened) (left k j one e) in
           (old.0, holds_below-from w.decls new j call k (λ i low need. still i j not_own (holds_below-at w.decls holder j call k i old.1 low need)));
       busy = λ j one c. elim (cases_eq j s) [
-        | inl own ↦ let wrong : false ≡ true = sym open' ∙ ap (λ y. y.committed) (sym (seat_same seat s x j own)) ∙ c in cc
+        | inl own ↦ let wrong : false ≡ true = sym open' ∙ ap (λ y. y.committed) (sym (position_same position s x j own)) ∙ c in cc
         | inr other ↦ let old = h.busy j one (ap (λ y. y.committed) (sym (rest j other)) ∙ c) in (old.0, still old.0 j other old.1)
       ];
     }
@@ -227,8 +227,8 @@ Holds-finish w holder new seat s x nothing freed kept open' h =
     still k j not_own e = kept k (λ same. not_own (sym e ∙ same)) ∙ e
 
 -- after the last give
-pub Holds-last : (w : World) (holder : ℕ → ℕ) (seat : ℕ → Seat) (s l : ℕ) (x : Seat) → 1 ≤ s → holder l ≡ s → holds_none w.decls (with_holder holder l 0) s ≡ true → x.committed ≡ false → Holds w holder seat → Holds w (with_holder holder l 0) (with_seat seat s x)
-Holds-last w holder seat s l x some own none open' h = Holds-finish w holder (with_holder holder l 0) seat s x nothing
+pub Holds-last : (w : World) (holder : ℕ → ℕ) (position : ℕ → Position) (s l : ℕ) (x : Position) → 1 ≤ s → holder l ≡ s → holds_none w.decls (with_holder holder l 0) s ≡ true → x.committed ≡ false → Holds w holder position → Holds w (with_holder holder l 0) (with_position position s x)
+Holds-last w holder position s l x some own none open' h = Holds-finish w holder (with_holder holder l 0) position s x nothing
     (λ k e. elim (cases_eq k l) [
       | inl same ↦ holder_same holder l 0 k same
       | inr other ↦ absurd (nothing k (holder_other holder l 0 k other ∙ e))
@@ -249,15 +249,15 @@ Holds-last w holder seat s l x some own none open' h = Holds-finish w holder (wi
     ] refl
 
 -- after a quit
-pub Holds-quit : (w : World) (holder : ℕ → ℕ) (seat : ℕ → Seat) (s : ℕ) (x : Seat) → 1 ≤ s → x.committed ≡ false → Holds w holder seat → Holds w (without_session holder s) (with_seat seat s x)
-Holds-quit w holder seat s x some open' h = Holds-finish w holder (without_session holder s) seat s x (without_nobody holder s some)
+pub Holds-quit : (w : World) (holder : ℕ → ℕ) (position : ℕ → Position) (s : ℕ) (x : Position) → 1 ≤ s → x.committed ≡ false → Holds w holder position → Holds w (without_session holder s) (with_position position s x)
+Holds-quit w holder position s x some open' h = Holds-finish w holder (without_session holder s) position s x (without_nobody holder s some)
     (λ k e. without_own holder s k e) (λ k e. without_other holder s k e) open' h
 
-pub Holds-opened : (w : World) → Holds w (λ l. 0) (λ s. seat_after w s 0)
+pub Holds-opened : (w : World) → Holds w (λ l. 0) (λ s. position_after w s 0)
 Holds-opened w = record {
   within = λ l past. refl;
   held = λ s l one e. absurd (omega arith);
-  first = λ s l call is open' e. absurd (nobody s (is_session w s (seat_after w s 0).number call is) e);
+  first = λ s l call is open' e. absurd (nobody s (is_session w s (position_after w s 0).number call is) e);
   busy = λ s one c. cc;
 }
   where

@@ -9,7 +9,7 @@ use Rattle.dt_model.specs.declared.replies.Verdict.{Verdict}
 use Rattle.dt_model.specs.declared.replies.World.{World}
 use Rattle.dt_model.specs.Runs.{call_of, call_in}
 use Rattle.commit_core.specs.Turns.{script_of, lines_in, next_after}
-use Rattle.commit_core.specs.Events.{seat_after}
+use Rattle.commit_core.specs.Events.{position_after}
 use Rattle.commit_core.specs.Sound.{IsPast}
 
 -- the first number of a range that passes, with none that passes before it; or none passes
@@ -73,14 +73,14 @@ next_cases w s n =
     ]
 
 -- who goes on after line n has come past it and all before it
-pub past_after : (w : World) (s n m : ℕ) → m ≤ n → IsPast (seat_after w s n) m
+pub past_after : (w : World) (s n m : ℕ) → m ≤ n → IsPast (position_after w s n) m
 past_after w s n m l = elim (next_cases w s n) [
   | inl none ↦ inl none.0
   | inr found ↦ let above : n < next_after w s n = found.0 in inr (omega arith)
 ]
 
 -- no accepted call is between line n and the next
-pub none_between : (w : World) (s n m : ℕ) (call : Call) → n < m → IsPast (seat_after w s n) m → call_of w s m ≡ Some call → ⊥
+pub none_between : (w : World) (s n m : ℕ) (call : Call) → n < m → IsPast (position_after w s n) m → call_of w s m ≡ Some call → ⊥
 none_between w s n m call above past e = elim (next_cases w s n) [
   | inl none ↦ let no : None ≡ Some call = sym (none.1 m above) ∙ e in cc
   | inr found ↦ elim past [

@@ -22,8 +22,8 @@ use Rattle.commit_core.proofs.GoingOn.{goes_on}
 -- what is made, whose turn it is, and who holds which latch
 pub record Parts (w : World) (p : Progress) : Type 0 where
   pub made : Made w p.machine.content p.machine.history p.replies
-  pub turns : Turns w p.machine.history p.seat p.lost
-  pub holds : Holds w p.machine.holder p.seat
+  pub turns : Turns w p.machine.history p.position p.lost
+  pub holds : Holds w p.machine.holder p.position
 
 -- what is kept has the parts
 pub parts_of : (w : World) (p : Progress) → IsKept w p → Parts w p

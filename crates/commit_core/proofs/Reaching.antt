@@ -9,7 +9,7 @@ use Rattle.dt_model.specs.declared.replies.World.{World}
 use Rattle.dt_model.specs.Latches.{needs}
 use Rattle.dt_model.specs.Worlds.{IsValid}
 use Rattle.dt_model.specs.Runs.{call_of}
-use Rattle.commit_core.specs.declared.events.Seat.{Seat}
+use Rattle.commit_core.specs.declared.events.Position.{Position}
 use Rattle.commit_core.specs.Machine.{Machine, Reached, gives, Gives, nothing, one_more, CanTake, CanCommit, journal_latch, commit_needs, with_holder}
 use Rattle.commit_core.specs.Events.{holds_below, without_session}
 use Rattle.commit_core.proofs.Bounds.{needs_below}
@@ -25,9 +25,9 @@ needed_within w s n call l valid is need = elim (or_cases (needs w.decls call l)
 ]
 
 -- the machine can make a possible take
-pub CanTake-possible : (w : World) (m : Machine) (seat : ℕ → Seat) (s l : ℕ) (call : Call) → call_of w s (seat s).number ≡ Some call → Takes w.decls m.holder (seat s) s l call → Holds w m.holder seat → CanTake w.decls m s l
-CanTake-possible w m seat s l call is t h =
-    let some : 1 ≤ s = is_session w s (seat s).number call is in
+pub CanTake-possible : (w : World) (m : Machine) (position : ℕ → Position) (s l : ℕ) (call : Call) → call_of w s (position s).number ≡ Some call → Takes w.decls m.holder (position s) s l call → Holds w m.holder position → CanTake w.decls m s l
+CanTake-possible w m position s l call is t h =
+    let some : 1 ≤ s = is_session w s (position s).number call is in
     record { session = omega arith; latch = t.within; free = t.free; above = λ k e. below k some e }
   where
     below : (k : ℕ) → 1 ≤ s → m.holder k ≡ s → k < l
@@ -44,14 +44,14 @@ CanTake-possible w m seat s l call is t h =
     ] refl
 
 -- the machine can make a possible commit
-pub CanCommit-possible : (w : World) (m : Machine) (seat : ℕ → Seat) (s : ℕ) (e : Entry) → IsValid w → call_of w s (seat s).number ≡ Some e.call → e.turn.session ≡ s → holds_below w.decls m.holder s e.call (journal_latch w.decls + 1) ≡ true
+pub CanCommit-possible : (w : World) (m : Machine) (position : ℕ → Position) (s : ℕ) (e : Entry) → IsValid w → call_of w s (position s).number ≡ Some e.call → e.turn.session ≡ s → holds_below w.decls m.holder s e.call (journal_latch w.decls + 1) ≡ true
     → All (λ f. f.turn.session ≡ e.turn.session → f.turn.number < e.turn.number) m.history → CanCommit w.decls m e
-CanCommit-possible w m seat s e valid is session all above =
-    let some : 1 ≤ s = is_session w s (seat s).number e.call is in
+CanCommit-possible w m position s e valid is session all above =
+    let some : 1 ≤ s = is_session w s (position s).number e.call is in
     record {
       session = omega arith;
-      valid = call_is_valid_at w s (seat s).number e.call valid is;
-      holds = λ l need. holds_below-at w.decls m.holder s e.call (journal_latch w.decls + 1) l all (needed_within w s (seat s).number e.call l valid is need) need ∙ sym session;
+      valid = call_is_valid_at w s (position s).number e.call valid is;
+      holds = λ l need. holds_below-at w.decls m.holder s e.call (journal_latch w.decls + 1) l all (needed_within w s (position s).number e.call l valid is need) need ∙ sym session;
       above = above;
     }
 

@@ -2,18 +2,18 @@
 use Rattle.std.proofs.Common.{◌≡◌, ℕ, ◌<◌, ◌≤◌, true, false, List, [], ◌∷◌, length, get_or, set, refl, ap, ◌∙◌, arith, zero, suc, get_or-set_same, get_or-set_other, ◌≢◌}
 use Rattle.std.specs.Prelude.{slice_index, ◌==◌, if◌then◌else◌}
 use Rattle.std.proofs.lemmas.Bool.Decides.{nat_tests}
-use Rattle.commit_core.specs.declared.events.Seat.{Seat}
+use Rattle.commit_core.specs.declared.events.Position.{Position}
 use Rattle.commit_core.specs.Machine.{with_holder}
-use Rattle.commit_core.specs.Events.{with_seat}
-use Rattle.commit_core.specs.State.{seat_in, no_seat}
+use Rattle.commit_core.specs.Events.{with_position}
+use Rattle.commit_core.specs.State.{position_in, no_position}
 
 get_or-past : {X : Type 0} (xs : List X) (i : ℕ) (d : X) → length xs ≤ i → get_or xs i d ≡ d
 get_or-past [] i d l = refl
 get_or-past (x ∷ xs) zero d l = absurd (omega arith)
 get_or-past (x ∷ xs) (suc i) d l = get_or-past xs i d (omega arith)
 
-pub seat_in-past : (seats : List Seat) (s : ℕ) → length seats ≤ s → seat_in seats s ≡ no_seat
-seat_in-past seats s l = get_or-past seats s no_seat l
+pub position_in-past : (positions : List Position) (s : ℕ) → length positions ≤ s → position_in positions s ≡ no_position
+position_in-past positions s l = get_or-past positions s no_position l
 
 pub slice_index-past : (xs : List ℕ) (i : ℕ) → length xs ≤ i → slice_index xs i ≡ 0
 slice_index-past xs i l = get_or-past xs i 0 l
@@ -29,5 +29,5 @@ pub slice_index-set : (xs : List ℕ) (l s : ℕ) → l < length xs → slice_in
 slice_index-set xs l s in' = λ i k. changed_at xs l s 0 k in' i
 
 -- a session at a new place
-pub seat_in-set : (seats : List Seat) (s : ℕ) (x : Seat) → s < length seats → seat_in (set seats s x) ≡ with_seat (seat_in seats) s x
-seat_in-set seats s x in' = λ i k. changed_at seats s x no_seat k in' i
+pub position_in-set : (positions : List Position) (s : ℕ) (x : Position) → s < length positions → position_in (set positions s x) ≡ with_position (position_in positions) s x
+position_in-set positions s x in' = λ i k. changed_at positions s x no_position k in' i

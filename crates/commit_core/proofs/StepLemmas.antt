@@ -19,28 +19,28 @@ use Rattle.commit_core.proofs.Parts.{Parts, parts_of}
 
 IsStep-commit : (w : World) (p : Progress) (s : ℕ) → IsValid w → is_possible w p (Commit s) ≡ true → Parts w p → IsStep w p (Commit s) (after w p (Commit s)).machine
 IsStep-commit w p s valid can k =
-    let t = possible_call w.decls p.machine.holder p.seat (Commit s) (current w p s) can in
-    let parts = both_true (not (p.seat s).committed) (holds_below w.decls p.machine.holder s t.0 (journal_latch w.decls + 1)) t.2 in
-    let above = rises_at w p.machine.history p.seat p.lost s t.0 t.1 (not_committed (p.seat s).committed parts.0) k.turns in
-    (t.0, t.1, CanCommit-possible w p.machine p.seat s (entry_now p s t.0) valid t.1 refl parts.1 above, ap (λ o. (after_commit w.decls p s o).machine) t.1)
+    let t = possible_call w.decls p.machine.holder p.position (Commit s) (current w p s) can in
+    let parts = both_true (not (p.position s).committed) (holds_below w.decls p.machine.holder s t.0 (journal_latch w.decls + 1)) t.2 in
+    let above = rises_at w p.machine.history p.position p.lost s t.0 t.1 (not_committed (p.position s).committed parts.0) k.turns in
+    (t.0, t.1, CanCommit-possible w p.machine p.position s (entry_now p s t.0) valid t.1 refl parts.1 above, ap (λ o. (after_commit w.decls p s o).machine) t.1)
 
 IsStep-give : (w : World) (p : Progress) (s l : ℕ) → is_possible w p (Give s l) ≡ true → IsStep w p (Give s l) (after w p (Give s l)).machine
 IsStep-give w p s l can =
-    let t = possible_call w.decls p.machine.holder p.seat (Give s l) (current w p s) can in
-    let some : 1 ≤ s = is_session w s (p.seat s).number t.0 t.1 in
-    (record { session = omega arith; held = (Decides-eqb (p.machine.holder l) s).0 (both_true (p.seat s).committed (p.machine.holder l == s) t.2).1 }, refl)
+    let t = possible_call w.decls p.machine.holder p.position (Give s l) (current w p s) can in
+    let some : 1 ≤ s = is_session w s (p.position s).number t.0 t.1 in
+    (record { session = omega arith; held = (Decides-eqb (p.machine.holder l) s).0 (both_true (p.position s).committed (p.machine.holder l == s) t.2).1 }, refl)
 
 -- what a possible event makes of the machine is the machine's step
 pub IsStep-after : (w : World) (p : Progress) (e : Event) → IsKept w p → is_possible w p e ≡ true → IsStep w p e (after w p e).machine
 IsStep-after w p (Take s l) kept can =
     let k = parts_of w p kept in
-    let t = possible_call w.decls p.machine.holder p.seat (Take s l) (current w p s) can in
-    (CanTake-possible w p.machine p.seat s l t.0 t.1 (takes_when w.decls p.machine.holder (p.seat s) s l t.0 t.2) k.holds, refl)
+    let t = possible_call w.decls p.machine.holder p.position (Take s l) (current w p s) can in
+    (CanTake-possible w p.machine p.position s l t.0 t.1 (takes_when w.decls p.machine.holder (p.position s) s l t.0 t.2) k.holds, refl)
 IsStep-after w p (Commit s) kept can = IsStep-commit w p s kept.valid can (parts_of w p kept)
 IsStep-after w p (Give s l) kept can = IsStep-give w p s l can
 IsStep-after w p (Quit s) kept can =
-    let t = possible_call w.decls p.machine.holder p.seat (Quit s) (current w p s) can in
-    let some : 1 ≤ s = is_session w s (p.seat s).number t.0 t.1 in
+    let t = possible_call w.decls p.machine.holder p.position (Quit s) (current w p s) can in
+    let some : 1 ≤ s = is_session w s (p.position s).number t.0 t.1 in
     (Gives-quit w p.machine s some kept.within, without_nobody p.machine.holder s some)
 
 -- a step leads to what is reached

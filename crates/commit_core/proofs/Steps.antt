@@ -14,22 +14,22 @@ use Rattle.dt_model.specs.Runs.{cut, call_of, call_in, after_call, base_of}
 use Rattle.dt_model.proofs.TestLemmas.{both_true}
 use Rattle.commit_core.specs.declared.events.Event.{Event}
 use Rattle.commit_core.specs.declared.events.Event.TheVariants.{Take, Commit, Give, Quit}
-use Rattle.commit_core.specs.declared.events.Seat.{Seat}
+use Rattle.commit_core.specs.declared.events.Position.{Position}
 use Rattle.commit_core.specs.Cells.{Cells, contents_of}
 use Rattle.commit_core.specs.Machine.{journal_latch, content_after, with_holder}
 use Rattle.commit_core.specs.Valid.{updates_of}
-use Rattle.commit_core.specs.Events.{Progress, opened, happens, after, run_of, seat_after, possible_by, is_possible, session_in, read_by, after_take, after_commit, after_give, after_quit, all_under, holds_none, without_session, with_seat}
-use Rattle.commit_core.specs.State.{CoreState, progress_of, content_in, seat_in}
+use Rattle.commit_core.specs.Events.{Progress, opened, happens, after, run_of, position_after, possible_by, is_possible, session_in, read_by, after_take, after_commit, after_give, after_quit, all_under, holds_none, without_session, with_position}
+use Rattle.commit_core.specs.State.{CoreState, progress_of, content_in, position_in}
 use Rattle.commit_core.proofs.Cuts.{content_after-cut}
-use Rattle.commit_core.proofs.StateLemmas.{slice_index-set, seat_in-set, seat_in-past, slice_index-past}
+use Rattle.commit_core.proofs.StateLemmas.{slice_index-set, position_in-set, position_in-past, slice_index-past}
 
 -- lists of an opening stand for the opening
-pub opening_is : (w : World) (holders : List ℕ) (seats : List Seat) (tensors : List Cells) (entries : List Entry) (replies : List (Option ℕ)) (lost : List Turn)
-    → ((k : ℕ) → slice_index holders k ≡ 0) → ((s : ℕ) → seat_in seats s ≡ seat_after w s 0) → contents_of tensors ≡ base_of w → entries ≡ [] → replies ≡ [] → lost ≡ []
-    → progress_of (record { world = w; holders = holders; seats = seats; tensors = tensors; entries = entries; replies = replies; lost = lost }) ≡ opened w
-opening_is w holders seats tensors entries replies lost free first is e r l = λ i. record {
+pub opening_is : (w : World) (holders : List ℕ) (positions : List Position) (tensors : List Cells) (entries : List Entry) (replies : List (Option ℕ)) (lost : List Turn)
+    → ((k : ℕ) → slice_index holders k ≡ 0) → ((s : ℕ) → position_in positions s ≡ position_after w s 0) → contents_of tensors ≡ base_of w → entries ≡ [] → replies ≡ [] → lost ≡ []
+    → progress_of (record { world = w; holders = holders; positions = positions; tensors = tensors; entries = entries; replies = replies; lost = lost }) ≡ opened w
+opening_is w holders positions tensors entries replies lost free first is e r l = λ i. record {
   machine = record { holder = λ k. free k i; content = λ k. ap (λ (m : Contents). cut w.decls m k) is i; history = e i };
-  seat = λ s. first s i;
+  position = λ s. first s i;
   lost = l i;
   replies = r i;
 }
@@ -40,18 +40,18 @@ pub no_call_zero : (w : World) (s : ℕ) → call_of w s 0 ≡ None
 no_call_zero w s = elim (nat_le 1 s) as (λ b. option_and_then call_in (if b && nat_le 1 0 then option_and_then (λ script. slice_get script (0 - 1)) (slice_get w.scripts (s - 1)) else None) ≡ None) [ true ↦ refl | false ↦ refl ]
 
 -- a session with a current call has a place of its own
-pub is_seated : (w : World) (seats : List Seat) (s : ℕ) (call : Call) → call_of w s (seat_in seats s).number ≡ Some call → s < length seats
-is_seated w seats s call e = elim (nat_lt s (length seats)) as (λ b. nat_lt s (length seats) ≡ b → s < length seats) [
+pub has_position : (w : World) (positions : List Position) (s : ℕ) (call : Call) → call_of w s (position_in positions s).number ≡ Some call → s < length positions
+has_position w positions s call e = elim (nat_lt s (length positions)) as (λ b. nat_lt s (length positions) ≡ b → s < length positions) [
   | true ↦ λ t. grind (arith, nat_tests)
   | false ↦ λ t.
-      let past : length seats ≤ s = grind (arith, nat_tests) in
-      let none : call_of w s (seat_in seats s).number ≡ None = ap (λ x. call_of w s x.number) (seat_in-past seats s past) ∙ no_call_zero w s in
+      let past : length positions ≤ s = grind (arith, nat_tests) in
+      let none : call_of w s (position_in positions s).number ≡ None = ap (λ x. call_of w s x.number) (position_in-past positions s past) ∙ no_call_zero w s in
       let no : None ≡ Some call = sym none ∙ e in
       cc
 ] refl
 
 -- a possible event is one of a session with a current call
-pub possible_call : (d : Decls) (h : ℕ → ℕ) (f : ℕ → Seat) (e : Event) (o : Option Call) → possible_by d h f e o ≡ true → (call : Call) × (o ≡ Some call) × (possible_by d h f e (Some call) ≡ true)
+pub possible_call : (d : Decls) (h : ℕ → ℕ) (f : ℕ → Position) (e : Event) (o : Option Call) → possible_by d h f e o ≡ true → (call : Call) × (o ≡ Some call) × (possible_by d h f e (Some call) ≡ true)
 possible_call d h f (Take s l) None p = cc
 possible_call d h f (Take s l) (Some call) p = (call, refl, p)
 possible_call d h f (Commit s) None p = cc
@@ -75,67 +75,67 @@ content_in-commit d tensors new call is l = ap (λ (m : Contents). cut d m l) (i
 
 -- ---- events
 
-pub take_is : (w : World) (holders new : List ℕ) (seats : List Seat) (tensors : List Cells) (entries : List Entry) (replies : List (Option ℕ)) (lost : List Turn) (s l : ℕ)
+pub take_is : (w : World) (holders new : List ℕ) (positions : List Position) (tensors : List Cells) (entries : List Entry) (replies : List (Option ℕ)) (lost : List Turn) (s l : ℕ)
     → new ≡ set holders l s → l < length holders
-    → progress_of (record { world = w; holders = new; seats = seats; tensors = tensors; entries = entries; replies = replies; lost = lost })
-    ≡ after_take (progress_of (record { world = w; holders = holders; seats = seats; tensors = tensors; entries = entries; replies = replies; lost = lost })) s l
-take_is w holders new seats tensors entries replies lost s l is in' =
+    → progress_of (record { world = w; holders = new; positions = positions; tensors = tensors; entries = entries; replies = replies; lost = lost })
+    ≡ after_take (progress_of (record { world = w; holders = holders; positions = positions; tensors = tensors; entries = entries; replies = replies; lost = lost })) s l
+take_is w holders new positions tensors entries replies lost s l is in' =
     let h : slice_index new ≡ with_holder (slice_index holders) l s = ap slice_index is ∙ slice_index-set holders l s in' in
-    λ i. record { machine = record { holder = h i; content = content_in w.decls tensors; history = entries }; seat = seat_in seats; lost = lost; replies = replies }
+    λ i. record { machine = record { holder = h i; content = content_in w.decls tensors; history = entries }; position = position_in positions; lost = lost; replies = replies }
 
-pub commit_is : (w : World) (holders : List ℕ) (seats seats' : List Seat) (tensors tensors' : List Cells) (entries entries' : List Entry) (replies replies' : List (Option ℕ)) (lost : List Turn) (s n : ℕ) (call : Call)
+pub commit_is : (w : World) (holders : List ℕ) (positions positions' : List Position) (tensors tensors' : List Cells) (entries entries' : List Entry) (replies replies' : List (Option ℕ)) (lost : List Turn) (s n : ℕ) (call : Call)
     → contents_of tensors' ≡ with_updates (contents_of tensors) (updates_of call)
     → entries' ≡ entries ++ (record { turn = record { session = s; number = n }; call = call }) ∷ []
     → replies' ≡ replies ++ read_by w.decls (content_in w.decls tensors) call ∷ []
-    → seats' ≡ set seats s (record { number = n; committed = true }) → s < length seats → n ≡ (seat_in seats s).number
-    → progress_of (record { world = w; holders = holders; seats = seats'; tensors = tensors'; entries = entries'; replies = replies'; lost = lost })
-    ≡ after_commit w.decls (progress_of (record { world = w; holders = holders; seats = seats; tensors = tensors; entries = entries; replies = replies; lost = lost })) s (Some call)
-commit_is w holders seats seats' tensors tensors' entries entries' replies replies' lost s n call ec ee er es in' en =
+    → positions' ≡ set positions s (record { number = n; committed = true }) → s < length positions → n ≡ (position_in positions s).number
+    → progress_of (record { world = w; holders = holders; positions = positions'; tensors = tensors'; entries = entries'; replies = replies'; lost = lost })
+    ≡ after_commit w.decls (progress_of (record { world = w; holders = holders; positions = positions; tensors = tensors; entries = entries; replies = replies; lost = lost })) s (Some call)
+commit_is w holders positions positions' tensors tensors' entries entries' replies replies' lost s n call ec ee er es in' en =
     let c = content_in-commit w.decls tensors tensors' call ec in
-    let e : entries' ≡ entries ++ (record { turn = record { session = s; number = (seat_in seats s).number }; call = call }) ∷ [] = ee ∙ ap (λ k. entries ++ (record { turn = record { session = s; number = k }; call = call }) ∷ []) en in
-    let f : seat_in seats' ≡ with_seat (seat_in seats) s (record { number = (seat_in seats s).number; committed = true }) =
-    ap seat_in es ∙ seat_in-set seats s (record { number = n; committed = true }) in' ∙ ap (λ k. with_seat (seat_in seats) s (record { number = k; committed = true })) en in
-    λ i. record { machine = record { holder = slice_index holders; content = λ l. c l i; history = e i }; seat = f i; lost = lost; replies = er i }
+    let e : entries' ≡ entries ++ (record { turn = record { session = s; number = (position_in positions s).number }; call = call }) ∷ [] = ee ∙ ap (λ k. entries ++ (record { turn = record { session = s; number = k }; call = call }) ∷ []) en in
+    let f : position_in positions' ≡ with_position (position_in positions) s (record { number = (position_in positions s).number; committed = true }) =
+    ap position_in es ∙ position_in-set positions s (record { number = n; committed = true }) in' ∙ ap (λ k. with_position (position_in positions) s (record { number = k; committed = true })) en in
+    λ i. record { machine = record { holder = slice_index holders; content = λ l. c l i; history = e i }; position = f i; lost = lost; replies = er i }
 
-pub give_is : (w : World) (holders new : List ℕ) (seats seats' : List Seat) (tensors : List Cells) (entries : List Entry) (replies : List (Option ℕ)) (lost : List Turn) (s l : ℕ) (none : Bool)
+pub give_is : (w : World) (holders new : List ℕ) (positions positions' : List Position) (tensors : List Cells) (entries : List Entry) (replies : List (Option ℕ)) (lost : List Turn) (s l : ℕ) (none : Bool)
     → new ≡ set holders l 0 → l < length holders → length holders ≡ journal_latch w.decls + 1
     → all_under (λ k. not (slice_index new k == s)) (length new) ≡ none
-    → seats' ≡ (if none then set seats s (seat_after w s (seat_in seats s).number) else seats) → s < length seats
-    → progress_of (record { world = w; holders = new; seats = seats'; tensors = tensors; entries = entries; replies = replies; lost = lost })
-    ≡ after_give w (progress_of (record { world = w; holders = holders; seats = seats; tensors = tensors; entries = entries; replies = replies; lost = lost })) s l
-give_is w holders new seats seats' tensors entries replies lost s l none is in' full holds es seated =
+    → positions' ≡ (if none then set positions s (position_after w s (position_in positions s).number) else positions) → s < length positions
+    → progress_of (record { world = w; holders = new; positions = positions'; tensors = tensors; entries = entries; replies = replies; lost = lost })
+    ≡ after_give w (progress_of (record { world = w; holders = holders; positions = positions; tensors = tensors; entries = entries; replies = replies; lost = lost })) s l
+give_is w holders new positions positions' tensors entries replies lost s l none is in' full holds es positioned =
     let h : slice_index new ≡ with_holder (slice_index holders) l 0 = ap slice_index is ∙ slice_index-set holders l 0 in' in
     let len : length new ≡ journal_latch w.decls + 1 = ap length is ∙ length-set holders l 0 ∙ full in
     let same : holds_none w.decls (with_holder (slice_index holders) l 0) s ≡ none = sym (ap (λ f. all_under (λ k. not (f k == s)) (length new)) h ∙ ap (λ n. all_under (λ k. not (with_holder (slice_index holders) l 0 k == s)) n) len) ∙ holds in
-    let f : seat_in seats' ≡ (if holds_none w.decls (with_holder (slice_index holders) l 0) s then with_seat (seat_in seats) s (seat_after w s (seat_in seats s).number) else seat_in seats) =
-    ap seat_in es ∙ seats_by none seats s (seat_after w s (seat_in seats s).number) seated ∙ ap (λ b. if b then with_seat (seat_in seats) s (seat_after w s (seat_in seats s).number) else seat_in seats) (sym same) in
-    λ i. record { machine = record { holder = h i; content = content_in w.decls tensors; history = entries }; seat = f i; lost = lost; replies = replies }
+    let f : position_in positions' ≡ (if holds_none w.decls (with_holder (slice_index holders) l 0) s then with_position (position_in positions) s (position_after w s (position_in positions s).number) else position_in positions) =
+    ap position_in es ∙ positions_by none positions s (position_after w s (position_in positions s).number) positioned ∙ ap (λ b. if b then with_position (position_in positions) s (position_after w s (position_in positions s).number) else position_in positions) (sym same) in
+    λ i. record { machine = record { holder = h i; content = content_in w.decls tensors; history = entries }; position = f i; lost = lost; replies = replies }
   where
-    seats_by : (b : Bool) (seats : List Seat) (s : ℕ) (x : Seat) → s < length seats → seat_in (if b then set seats s x else seats) ≡ (if b then with_seat (seat_in seats) s x else seat_in seats)
-    seats_by true seats s x in' = seat_in-set seats s x in'
-    seats_by false seats s x in' = refl
+    positions_by : (b : Bool) (positions : List Position) (s : ℕ) (x : Position) → s < length positions → position_in (if b then set positions s x else positions) ≡ (if b then with_position (position_in positions) s x else position_in positions)
+    positions_by true positions s x in' = position_in-set positions s x in'
+    positions_by false positions s x in' = refl
 
-pub quit_is : (w : World) (holders new : List ℕ) (seats seats' : List Seat) (tensors : List Cells) (entries : List Entry) (replies : List (Option ℕ)) (lost lost' : List Turn) (s n : ℕ)
+pub quit_is : (w : World) (holders new : List ℕ) (positions positions' : List Position) (tensors : List Cells) (entries : List Entry) (replies : List (Option ℕ)) (lost lost' : List Turn) (s n : ℕ)
     → ((k : ℕ) → slice_index new k ≡ without_session (slice_index holders) s k)
-    → seats' ≡ set seats s (seat_after w s n) → s < length seats → n ≡ (seat_in seats s).number
+    → positions' ≡ set positions s (position_after w s n) → s < length positions → n ≡ (position_in positions s).number
     → lost' ≡ lost ++ (record { session = s; number = n }) ∷ []
-    → progress_of (record { world = w; holders = new; seats = seats'; tensors = tensors; entries = entries; replies = replies; lost = lost' })
-    ≡ after_quit w (progress_of (record { world = w; holders = holders; seats = seats; tensors = tensors; entries = entries; replies = replies; lost = lost })) s
-quit_is w holders new seats seats' tensors entries replies lost lost' s n h es in' en el =
-    let f : seat_in seats' ≡ with_seat (seat_in seats) s (seat_after w s (seat_in seats s).number) =
-    ap seat_in es ∙ seat_in-set seats s (seat_after w s n) in' ∙ ap (λ k. with_seat (seat_in seats) s (seat_after w s k)) en in
-    let e : lost' ≡ lost ++ (record { session = s; number = (seat_in seats s).number }) ∷ [] = el ∙ ap (λ k. lost ++ (record { session = s; number = k }) ∷ []) en in
-    λ i. record { machine = record { holder = λ k. h k i; content = content_in w.decls tensors; history = entries }; seat = f i; lost = e i; replies = replies }
+    → progress_of (record { world = w; holders = new; positions = positions'; tensors = tensors; entries = entries; replies = replies; lost = lost' })
+    ≡ after_quit w (progress_of (record { world = w; holders = holders; positions = positions; tensors = tensors; entries = entries; replies = replies; lost = lost })) s
+quit_is w holders new positions positions' tensors entries replies lost lost' s n h es in' en el =
+    let f : position_in positions' ≡ with_position (position_in positions) s (position_after w s (position_in positions s).number) =
+    ap position_in es ∙ position_in-set positions s (position_after w s n) in' ∙ ap (λ k. with_position (position_in positions) s (position_after w s k)) en in
+    let e : lost' ≡ lost ++ (record { session = s; number = (position_in positions s).number }) ∷ [] = el ∙ ap (λ k. lost ++ (record { session = s; number = k }) ∷ []) en in
+    λ i. record { machine = record { holder = λ k. h k i; content = content_in w.decls tensors; history = entries }; position = f i; lost = e i; replies = replies }
 
 -- ---- ranges
 
 -- the event is possible over these lists
-abbrev pub IsPossible : World → List ℕ → List Seat → Event → Type 0
-IsPossible w holders seats e = possible_by w.decls (slice_index holders) (seat_in seats) e (call_of w (session_in e) (seat_in seats (session_in e)).number) ≡ true
+abbrev pub IsPossible : World → List ℕ → List Position → Event → Type 0
+IsPossible w holders positions e = possible_by w.decls (slice_index holders) (position_in positions) e (call_of w (session_in e) (position_in positions (session_in e)).number) ≡ true
 
-pub take_in_range : (w : World) (holders : List ℕ) (seats : List Seat) (s l : ℕ) → IsPossible w holders seats (Take s l) → l ≤ journal_latch w.decls
-take_in_range w holders seats s l h =
-    let t = possible_call w.decls (slice_index holders) (seat_in seats) (Take s l) (call_of w s (seat_in seats s).number) h in
+pub take_in_range : (w : World) (holders : List ℕ) (positions : List Position) (s l : ℕ) → IsPossible w holders positions (Take s l) → l ≤ journal_latch w.decls
+take_in_range w holders positions s l h =
+    let t = possible_call w.decls (slice_index holders) (position_in positions) (Take s l) (call_of w s (position_in positions s).number) h in
     let a = both_true _ _ t.2 in
     let b = both_true _ _ a.0 in
     let c = both_true _ _ b.0 in
@@ -158,15 +158,15 @@ held_in_range holders s l some held = elim (nat_lt l (length holders)) as (λ b.
   | false ↦ λ e. let past : length holders ≤ l = grind (arith, nat_tests) in let zero : slice_index holders l ≡ 0 = slice_index-past holders l past in absurd (omega arith)
 ] refl
 
-pub give_in_range : (w : World) (holders : List ℕ) (seats : List Seat) (s l : ℕ) → IsPossible w holders seats (Give s l) → l < length holders
-give_in_range w holders seats s l h =
-    let t = possible_call w.decls (slice_index holders) (seat_in seats) (Give s l) (call_of w s (seat_in seats s).number) h in
-    held_in_range holders s l (is_session w s (seat_in seats s).number t.0 t.1) ((Decides-eqb (slice_index holders l) s).0 (both_true (seat_in seats s).committed (slice_index holders l == s) t.2).1)
+pub give_in_range : (w : World) (holders : List ℕ) (positions : List Position) (s l : ℕ) → IsPossible w holders positions (Give s l) → l < length holders
+give_in_range w holders positions s l h =
+    let t = possible_call w.decls (slice_index holders) (position_in positions) (Give s l) (call_of w s (position_in positions s).number) h in
+    held_in_range holders s l (is_session w s (position_in positions s).number t.0 t.1) ((Decides-eqb (slice_index holders l) s).0 (both_true (position_in positions s).committed (slice_index holders l == s) t.2).1)
 
-pub seated_in_range : (w : World) (holders : List ℕ) (seats : List Seat) (e : Event) → IsPossible w holders seats e → session_in e < length seats
-seated_in_range w holders seats e h =
-    let t = possible_call w.decls (slice_index holders) (seat_in seats) e (call_of w (session_in e) (seat_in seats (session_in e)).number) h in
-    is_seated w seats (session_in e) t.0 t.1
+pub position_in_range : (w : World) (holders : List ℕ) (positions : List Position) (e : Event) → IsPossible w holders positions e → session_in e < length positions
+position_in_range w holders positions e h =
+    let t = possible_call w.decls (slice_index holders) (position_in positions) e (call_of w (session_in e) (position_in positions (session_in e)).number) h in
+    has_position w positions (session_in e) t.0 t.1
 
 pub after_commit_at : (d : Decls) (p : Progress) (s : ℕ) (o : Option Call) (call : Call) → o ≡ Some call → after_commit d p s o ≡ after_commit d p s (Some call)
 after_commit_at d p s o call e = ap (after_commit d p s) e

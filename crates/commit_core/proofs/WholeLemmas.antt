@@ -13,10 +13,10 @@ use Rattle.commit_core.proofs.KeptLemmas.{IsKept-after}
 
 -- a core whose lists stand for what a possible event makes, and are as long as they were, is whole
 pub IsWhole-after : (old new : CoreState) (spare left : ℕ) (e : Event) → IsWhole old spare → is_possible old.world (progress_of old) e ≡ true → new.world ≡ old.world → progress_of new ≡ after old.world (progress_of old) e
-    → length new.holders ≡ length old.holders → length new.seats ≡ length old.seats → length new.tensors ≡ length old.tensors → length new.entries + left ≡ length old.entries + spare → IsWhole new left
-IsWhole-after old new spare left e h can same made holders seats tensors room = record {
+    → length new.holders ≡ length old.holders → length new.positions ≡ length old.positions → length new.tensors ≡ length old.tensors → length new.entries + left ≡ length old.entries + spare → IsWhole new left
+IsWhole-after old new spare left e h can same made holders positions tensors room = record {
   latches = holders ∙ h.latches ∙ sym (ap (λ w. journal_latch w.decls + 1) same);
-  sessions = seats ∙ h.sessions ∙ sym (ap (λ w. length w.scripts + 1) same);
+  sessions = positions ∙ h.sessions ∙ sym (ap (λ w. length w.scripts + 1) same);
   tensors = tensors ∙ h.tensors ∙ sym (ap (λ w. length w.base) same);
   room = room ∙ h.room ∙ sym (ap (λ w. sum_by length w.scripts) same);
   kept = subst (λ w. IsKept w (progress_of new)) (sym same) (subst (IsKept old.world) (sym made) (IsKept-after old.world (progress_of old) e h.kept can));

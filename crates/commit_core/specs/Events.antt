@@ -10,7 +10,7 @@ use Rattle.dt_model.specs.Latches.{latch_of_cell}
 use Rattle.dt_model.specs.Runs.{call_of}
 use Rattle.commit_core.specs.declared.events.Event.{Event}
 use Rattle.commit_core.specs.declared.events.Event.TheVariants.{Take, Commit, Give, Quit}
-use Rattle.commit_core.specs.declared.events.Seat.{Seat}
+use Rattle.commit_core.specs.declared.events.Position.{Position}
 use Rattle.commit_core.specs.Machine.{Machine, opening, journal_latch, commit_needs, taken, committed, given}
 use Rattle.commit_core.specs.Turns.{next_after}
 
@@ -18,21 +18,21 @@ use Rattle.commit_core.specs.Turns.{next_after}
 -- the turns that quit; and per entry the number that it read, if it is a get
 pub record Progress : Type 0 where
   pub machine : Machine
-  pub seat : ℕ → Seat
+  pub position : ℕ → Position
   pub lost : List Turn
   pub replies : List (Option ℕ)
 
 -- session s goes to its first accepted call after line n
-abbrev pub seat_after : World → ℕ → ℕ → Seat
-seat_after w s n = record { number = next_after w s n; committed = false }
+abbrev pub position_after : World → ℕ → ℕ → Position
+position_after w s n = record { number = next_after w s n; committed = false }
 
 -- the machine's opening, where each session is at its first accepted call
 abbrev pub opened : World → Progress
-opened w = record { machine = opening w; seat = λ s. seat_after w s 0; lost = []; replies = [] }
+opened w = record { machine = opening w; position = λ s. position_after w s 0; lost = []; replies = [] }
 
 -- the current call of session s, if it has one
 abbrev pub current : World → Progress → ℕ → Option Call
-current w p s = call_of w s (p.seat s).number
+current w p s = call_of w s (p.position s).number
 
 -- ---- what is possible
 
@@ -46,24 +46,24 @@ abbrev pub holds_below : Decls → (ℕ → ℕ) → ℕ → Call → ℕ → Bo
 holds_below d holder s call n = all_under (λ k. not (commit_needs d call k) || holder k == s) n
 
 -- before the commit, the least needed latch that the session doesn't hold, where it is free
-abbrev pub can_take : Decls → (ℕ → ℕ) → Seat → ℕ → ℕ → Call → Bool
-can_take d holder seat s l call = not seat.committed && nat_le l (journal_latch d) && commit_needs d call l && holder l == 0 && holds_below d holder s call l
+abbrev pub can_take : Decls → (ℕ → ℕ) → Position → ℕ → ℕ → Call → Bool
+can_take d holder position s l call = not position.committed && nat_le l (journal_latch d) && commit_needs d call l && holder l == 0 && holds_below d holder s call l
 
 -- where all needed latches and the journal's are held
-abbrev pub can_commit : Decls → (ℕ → ℕ) → Seat → ℕ → Call → Bool
-can_commit d holder seat s call = not seat.committed && holds_below d holder s call (journal_latch d + 1)
+abbrev pub can_commit : Decls → (ℕ → ℕ) → Position → ℕ → Call → Bool
+can_commit d holder position s call = not position.committed && holds_below d holder s call (journal_latch d + 1)
 
 -- after the commit, any latch that is held
-abbrev pub can_give : (ℕ → ℕ) → Seat → ℕ → ℕ → Bool
-can_give holder seat s l = seat.committed && holder l == s
+abbrev pub can_give : (ℕ → ℕ) → Position → ℕ → ℕ → Bool
+can_give holder position s l = position.committed && holder l == s
 
 -- whether the event is possible for its session, whose current call this is
-abbrev pub possible_by : Decls → (ℕ → ℕ) → (ℕ → Seat) → Event → Option Call → Bool
-possible_by d holder seat e None = false
-possible_by d holder seat (Take s l) (Some call) = can_take d holder (seat s) s l call
-possible_by d holder seat (Commit s) (Some call) = can_commit d holder (seat s) s call
-possible_by d holder seat (Give s l) (Some call) = can_give holder (seat s) s l
-possible_by d holder seat (Quit s) (Some call) = not (seat s).committed
+abbrev pub possible_by : Decls → (ℕ → ℕ) → (ℕ → Position) → Event → Option Call → Bool
+possible_by d holder position e None = false
+possible_by d holder position (Take s l) (Some call) = can_take d holder (position s) s l call
+possible_by d holder position (Commit s) (Some call) = can_commit d holder (position s) s call
+possible_by d holder position (Give s l) (Some call) = can_give holder (position s) s l
+possible_by d holder position (Quit s) (Some call) = not (position s).committed
 
 -- the session whose event it is
 abbrev pub session_in : Event → ℕ
@@ -74,13 +74,13 @@ session_in (Quit s) = s
 
 -- whether the event may happen now: its session must have a current call
 abbrev pub is_possible : World → Progress → Event → Bool
-is_possible w p e = possible_by w.decls p.machine.holder p.seat e (current w p (session_in e))
+is_possible w p e = possible_by w.decls p.machine.holder p.position e (current w p (session_in e))
 
 -- ---- what happens
 
 -- session s at a new place, and all others where they were
-abbrev pub with_seat : (ℕ → Seat) → ℕ → Seat → ℕ → Seat
-with_seat f s x = λ k. if k == s then x else f k
+abbrev pub with_position : (ℕ → Position) → ℕ → Position → ℕ → Position
+with_position f s x = λ k. if k == s then x else f k
 
 -- session s holds nothing, and all other latches have their holders
 abbrev pub without_session : (ℕ → ℕ) → ℕ → ℕ → ℕ
@@ -98,18 +98,18 @@ read_by d content (Query stmt) = None
 
 -- the turn of session s's current call
 abbrev pub turn_now : Progress → ℕ → Turn
-turn_now p s = record { session = s; number = (p.seat s).number }
+turn_now p s = record { session = s; number = (p.position s).number }
 
 -- session s takes latch l, and nothing else changes
 abbrev pub after_take : Progress → ℕ → ℕ → Progress
-after_take p s l = record { machine = taken p.machine s l; seat = p.seat; lost = p.lost; replies = p.replies }
+after_take p s l = record { machine = taken p.machine s l; position = p.position; lost = p.lost; replies = p.replies }
 
 -- the current call is entered with what it reads, its updates are made, and its session is committed
 abbrev pub after_commit : Decls → Progress → ℕ → Option Call → Progress
 after_commit d p s None = p
 after_commit d p s (Some call) = record {
   machine = committed d p.machine (record { turn = turn_now p s; call = call });
-  seat = with_seat p.seat s (record { number = (p.seat s).number; committed = true });
+  position = with_position p.position s (record { number = (p.position s).number; committed = true });
   lost = p.lost;
   replies = p.replies ++ read_by d p.machine.content call ∷ [];
 }
@@ -118,7 +118,7 @@ after_commit d p s (Some call) = record {
 abbrev pub after_give : World → Progress → ℕ → ℕ → Progress
 after_give w p s l = record {
   machine = given p.machine l;
-  seat = if holds_none w.decls (given p.machine l).holder s then with_seat p.seat s (seat_after w s (p.seat s).number) else p.seat;
+  position = if holds_none w.decls (given p.machine l).holder s then with_position p.position s (position_after w s (p.position s).number) else p.position;
   lost = p.lost;
   replies = p.replies;
 }
@@ -127,7 +127,7 @@ after_give w p s l = record {
 abbrev pub after_quit : World → Progress → ℕ → Progress
 after_quit w p s = record {
   machine = record { holder = without_session p.machine.holder s; content = p.machine.content; history = p.machine.history };
-  seat = with_seat p.seat s (seat_after w s (p.seat s).number);
+  position = with_position p.position s (position_after w s (p.position s).number);
   lost = p.lost ++ turn_now p s ∷ [];
   replies = p.replies;
 }

@@ -7,7 +7,7 @@ use Rattle.dt_model.specs.declared.replies.World.{World}
 use Rattle.dt_model.specs.Runs.{IsOrder, fold_of, cut, reply_of, call_of, has_turn}
 use Rattle.commit_core.specs.declared.events.Event.{Event}
 use Rattle.commit_core.specs.declared.events.Event.TheVariants.{Take, Commit, Give, Quit}
-use Rattle.commit_core.specs.declared.events.Seat.{Seat}
+use Rattle.commit_core.specs.declared.events.Position.{Position}
 use Rattle.commit_core.specs.Machine.{Reached, commit_needs}
 use Rattle.commit_core.specs.Turns.{is_lost}
 use Rattle.commit_core.specs.Events.{Progress, current, is_possible, holds_below}
@@ -21,8 +21,8 @@ value_in (Some (Value v)) = Some v
 value_in (Some (Result pairs)) = None
 
 -- a session that stands here has come past line n; one without a call has come past every line
-abbrev pub IsPast : Seat → ℕ → Type 0
-IsPast seat n = (seat.number ≡ 0) ⊎ (n < seat.number)
+abbrev pub IsPast : Position → ℕ → Type 0
+IsPast position n = (position.number ≡ 0) ⊎ (n < position.number)
 
 -- the event is a take, a commit or a give
 abbrev pub IsNoQuit : Event → Type 0
@@ -43,11 +43,11 @@ pub record IsSound (w : World) (p : Progress) : Type 0 where
   -- no turn is both made and lost
   pub once : (s n : ℕ) → has_turn p.machine.history s n ≡ true → is_lost p.lost s n ≡ false
   -- each accepted call before a session's current one is made or lost
-  pub settled : (s n : ℕ) (call : Call) → call_of w s n ≡ Some call → IsPast (p.seat s) n → (has_turn p.machine.history s n || is_lost p.lost s n) ≡ true
+  pub settled : (s n : ℕ) (call : Call) → call_of w s n ≡ Some call → IsPast (p.position s) n → (has_turn p.machine.history s n || is_lost p.lost s n) ≡ true
   -- a session is at one of its accepted calls, or has none left
-  pub standing : (s : ℕ) → ((p.seat s).number ≡ 0) ⊎ ((call : Call) × (current w p s ≡ Some call))
+  pub standing : (s : ℕ) → ((p.position s).number ≡ 0) ⊎ ((call : Call) × (current w p s ≡ Some call))
   -- before its commit a session holds the first of the latches that it needs
-  pub first : (s l : ℕ) (call : Call) → current w p s ≡ Some call → (p.seat s).committed ≡ false → p.machine.holder l ≡ s
+  pub first : (s l : ℕ) (call : Call) → current w p s ≡ Some call → (p.position s).committed ≡ false → p.machine.holder l ≡ s
       → (commit_needs w.decls call l ≡ true) × (holds_below w.decls p.machine.holder s call l ≡ true)
   -- while a session has a call left, some take, commit or give is possible
   pub goes_on : (s : ℕ) (call : Call) → current w p s ≡ Some call → (e : Event) × IsNoQuit e × (is_possible w p e ≡ true)

@@ -7,7 +7,7 @@ use Rattle.dt_model.specs.declared.declared_tensors.Decls.{Decls}
 use Rattle.dt_model.specs.Runs.{cut}
 use Rattle.dt_model.specs.declared.replies.World.{World}
 use Rattle.dt_model.specs.Contents.{Contents}
-use Rattle.commit_core.specs.declared.events.Seat.{Seat}
+use Rattle.commit_core.specs.declared.events.Position.{Position}
 use Rattle.commit_core.specs.Cells.{Cells, contents_of}
 use Rattle.commit_core.specs.Machine.{Machine}
 use Rattle.commit_core.specs.Events.{Progress}
@@ -17,7 +17,7 @@ use Rattle.commit_core.specs.Events.{Progress}
 pub record CoreState : Type 0 where
   pub world : World
   pub holders : List ℕ
-  pub seats : List Seat
+  pub positions : List Position
   pub tensors : List Cells
   pub entries : List Entry
   pub replies : List (Option ℕ)
@@ -28,12 +28,12 @@ abbrev pub content_in : Decls → List Cells → ℕ → Contents
 content_in d tensors l = cut d (contents_of tensors) l
 
 -- a session that has no call
-abbrev pub no_seat : Seat
-no_seat = record { number = 0; committed = false }
+abbrev pub no_position : Position
+no_position = record { number = 0; committed = false }
 
 -- where session s stands
-abbrev pub seat_in : List Seat → ℕ → Seat
-seat_in seats s = slice_index_or seats s no_seat
+abbrev pub position_in : List Position → ℕ → Position
+position_in positions s = slice_index_or positions s no_position
 
 -- the latch machine that a core stands for
 abbrev pub machine_of : CoreState → Machine
@@ -41,7 +41,7 @@ machine_of c = record { holder = λ l. slice_index c.holders l; content = conten
 
 -- the progress that a core stands for
 abbrev pub progress_of : CoreState → Progress
-progress_of c = record { machine = machine_of c; seat = seat_in c.seats; lost = c.lost; replies = c.replies }
+progress_of c = record { machine = machine_of c; position = position_in c.positions; lost = c.lost; replies = c.replies }
 
 -- what the entry at a place read, if there is one and it is a get
 abbrev pub reply_in : List (Option ℕ) → ℕ → Option ℕ

@@ -11,9 +11,9 @@ ghost use Rattle.commit_core.specs.Kept.{IsKept};
 
 use crate::cells::CellList;
 use crate::entering::{enter, release};
-use crate::events::{Event, Seat, StepFault};
-use crate::opening::{all_free, first_seats, lines_in, seat_after};
-use crate::possible::{holder_of, holds_none, is_possible, seat_of};
+use crate::events::{Event, Position, StepFault};
+use crate::opening::{all_free, first_positions, lines_in, position_after};
+use crate::possible::{holder_of, holds_none, is_possible, position_of};
 use crate::tensors::loaded;
 use crate::turns::{call_of, is_lost};
 use dt_model::{Journal, NoMemory, Turn, World, latch_count};
@@ -28,7 +28,7 @@ pub struct Core<'w> {
     alloc: Global,
     world: &'w World,
     holders: Vec<u32>,
-    seats: Vec<Seat>,
+    positions: Vec<Position>,
     tensors: Vec<CellList>,
     journal: Journal,
     replies: Vec<Option<u64>>,
@@ -39,18 +39,18 @@ impl<'w> Model for Core<'w> {
     ghost use Rattle.std.specs.Coded.{codes};
     ghost use Rattle.dt_model.specs.contracts.replies.World as given;
     ghost use Rattle.dt_model.specs.contracts.calls.Entry as entered;
-    ghost use Rattle.commit_core.specs.contracts.events.Seat as seated;
+    ghost use Rattle.commit_core.specs.contracts.events.Position as positioned;
     ghost use Rattle.commit_core.specs.Roomy.{all_cells};
     ghost use Rattle.commit_core.specs.State.{CoreState};
     ghost use Rattle.commit_core.specs.Whole.{IsWhole};
 
     ghost Value = { CoreState };
 
-    ghost coded = { Prim.hlevel (codes, given.the_row.coded, entered.the_row.coded, seated.the_row.coded) };
+    ghost coded = { Prim.hlevel (codes, given.the_row.coded, entered.the_row.coded, positioned.the_row.coded) };
 
-    ghost view = { λ c. record { world = c.world.now; holders = c.holders.items; seats = c.seats.items; tensors = all_cells c.tensors.items; entries = c.journal.entries; replies = c.replies.items; lost = c.lost.items } };
+    ghost view = { λ c. record { world = c.world.now; holders = c.holders.items; positions = c.positions.items; tensors = all_cells c.tensors.items; entries = c.journal.entries; replies = c.replies.items; lost = c.lost.items } };
 
-    ghost invariant = { λ c. IsWhole (record { world = c.world.now; holders = c.holders.items; seats = c.seats.items; tensors = all_cells c.tensors.items; entries = c.journal.entries; replies = c.replies.items; lost = c.lost.items }) c.journal.spare };
+    ghost invariant = { λ c. IsWhole (record { world = c.world.now; holders = c.holders.items; positions = c.positions.items; tensors = all_cells c.tensors.items; entries = c.journal.entries; replies = c.replies.items; lost = c.lost.items }) c.journal.spare };
 }
 
 impl<'w> Core<'w> {
@@ -64,13 +64,13 @@ impl<'w> Core<'w> {
     {
         let tensors = loaded(alloc, world.base.as_slice())?;
         let holders = all_free(alloc, latch_count(&world.decls) + 1)?;
-        let seats = first_seats(alloc, world)?;
+        let positions = first_positions(alloc, world)?;
         let journal = Journal::with_room(alloc, lines_in(world))?;
         Ok(Core {
             alloc,
             world,
             holders,
-            seats,
+            positions,
             tensors,
             journal,
             replies: Vec::new(alloc),
@@ -87,7 +87,7 @@ impl<'w> Core<'w> {
         is_possible(
             self.world,
             self.holders.as_slice(),
-            self.seats.as_slice(),
+            self.positions.as_slice(),
             event,
         )
     }
@@ -137,13 +137,13 @@ impl<'w> Core<'w> {
         ensures err { OnErr result (self.new ≡ self.old) }
     {
         let world = self.world;
-        let seat = seat_of(self.seats.as_slice(), session);
-        match call_of(world, session, seat.number) {
+        let position = position_of(self.positions.as_slice(), session);
+        match call_of(world, session, position.number) {
             None => unreachable!(),
             Some(call) => {
                 let turn = Turn {
                     session,
-                    number: seat.number,
+                    number: position.number,
                 };
                 enter(
                     self.alloc,
@@ -153,8 +153,8 @@ impl<'w> Core<'w> {
                     &mut self.replies,
                     &mut self.tensors,
                 )?;
-                self.seats[session as usize] = Seat {
-                    number: seat.number,
+                self.positions[session as usize] = Position {
+                    number: position.number,
                     committed: true,
                 };
                 Ok(())
@@ -169,8 +169,8 @@ impl<'w> Core<'w> {
     {
         self.holders[latch as usize] = 0;
         if holds_none(self.holders.as_slice(), session) {
-            let seat = seat_of(self.seats.as_slice(), session);
-            self.seats[session as usize] = seat_after(self.world, session, seat.number);
+            let position = position_of(self.positions.as_slice(), session);
+            self.positions[session as usize] = position_after(self.world, session, position.number);
         }
     }
 
@@ -180,16 +180,20 @@ impl<'w> Core<'w> {
         ensures world { self.new.world ≡ self.old.world }
         ensures err { OnErr result (self.new ≡ self.old) }
     {
-        let seat = seat_of(self.seats.as_slice(), session);
+        let position = position_of(self.positions.as_slice(), session);
         let turn = Turn {
             session,
-            number: seat.number,
+            number: position.number,
         };
         match self.lost.push(turn) {
             Err(_) => Err(NoMemory),
             Ok(()) => {
                 release(&mut self.holders, session);
-                self.seats[session as usize] = seat_after(self.world, session, seat.number);
+                self.positions[session as usize] = position_after(
+                    self.world,
+                    session,
+                    position.number,
+                );
                 Ok(())
             }
         }

@@ -22,7 +22,7 @@ pub enum StepFault {
 
 /// Where a session stands.
 #[derive(Clone, Copy, Debug, PartialEq, Eq)]
-pub struct Seat {
+pub struct Position {
     /// The current call's number in the session's script, counted from 1; 0 where it has none.
     pub number: u32,
     /// Whether that call is committed.

@@ -26,5 +26,5 @@ mod turns;
 
 pub use cells::CellList;
 pub use cores::Core;
-pub use events::{Event, Seat, StepFault};
+pub use events::{Event, Position, StepFault};
 pub use tensors::{apply_all, loaded, number_at, reserve_all};

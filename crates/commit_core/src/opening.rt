@@ -1,9 +1,9 @@
 ghost use Rattle.std.specs.Prelude.{◌≡◌, ◌+◌, ◌<◌, ℕ, IfOk, length, slice_index, sum_by};
 ghost use Rattle.dt_model.specs.Worlds.{IsValid};
-ghost use Rattle.commit_core.specs.Events.{seat_after};
-ghost use Rattle.commit_core.specs.State.{seat_in};
+ghost use Rattle.commit_core.specs.Events.{position_after};
+ghost use Rattle.commit_core.specs.State.{position_in};
 
-use crate::events::Seat;
+use crate::events::Position;
 use crate::turns::next_after;
 use dt_model::{NoMemory, World};
 use std::alloc::Global;
@@ -20,29 +20,32 @@ pub fn all_free(alloc: Global, latches: u32) -> Result<Vec<u32>, NoMemory>
 }
 
 /// The place of a session at its first accepted call after a line.
-pub fn seat_after(world: &World, session: u32, number: u32) -> Seat
+pub fn position_after(world: &World, session: u32, number: u32) -> Position
     requires valid { IsValid world.now }
-    ensures value { result ≡ seat_after world.now session number }
+    ensures value { result ≡ position_after world.now session number }
 {
-    Seat {
+    Position {
         number: next_after(world, session, number),
         committed: false,
     }
 }
 
 /// Each session at its first accepted call; place 0 is of no session.
-pub fn first_seats(alloc: Global, world: &World) -> Result<Vec<Seat>, NoMemory>
+pub fn first_positions(alloc: Global, world: &World) -> Result<Vec<Position>, NoMemory>
     requires valid { IsValid world.now }
-    ensures len { IfOk result (λ seats. length seats.items ≡ length world.now.scripts + 1) }
-    ensures seats { IfOk result (λ seats. (s : ℕ) → seat_in seats.items s ≡ seat_after world.now s 0) }
+    ensures len { IfOk result (λ positions. length positions.items ≡ length world.now.scripts + 1) }
+    ensures positions { IfOk result (λ positions. (s : ℕ) → position_in positions.items s ≡ position_after world.now s 0) }
 {
-    let mut seats = Vec::new(alloc);
+    let mut positions = Vec::new(alloc);
     for session in 0..world.scripts.len() + 1 {
-        if seats.push(seat_after(world, session as u32, 0)).is_err() {
+        if positions
+            .push(position_after(world, session as u32, 0))
+            .is_err()
+        {
             return Err(NoMemory);
         }
     }
-    Ok(seats)
+    Ok(positions)
 }
 
 /// How many lines the scripts have.

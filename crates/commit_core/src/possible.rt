@@ -7,10 +7,10 @@ ghost use Rattle.dt_model.specs.Tensors.{tensor_named};
 ghost use Rattle.dt_model.specs.Verdicts.{call_is_valid, update_cell};
 ghost use Rattle.dt_model.specs.Worlds.{IsValid, decls_are_valid};
 ghost use Rattle.commit_core.specs.Events.{all_under, holds_below, can_take, can_commit, possible_by, session_in};
-ghost use Rattle.commit_core.specs.State.{seat_in};
+ghost use Rattle.commit_core.specs.State.{position_in};
 ghost use Rattle.commit_core.specs.Valid.{updates_are_valid};
 
-use crate::events::{Event, Seat};
+use crate::events::{Event, Position};
 use crate::latches::{cell_of, commit_needs, expression_needs};
 use crate::turns::call_of;
 use dt_model::{Call, Decls, Expr, Update, World, latch_count, latch_of};
@@ -26,12 +26,12 @@ pub fn holder_of(holders: &[u32], latch: u32) -> u32
 }
 
 /// Where a session stands.
-pub fn seat_of(seats: &[Seat], session: u32) -> Seat
-    ensures value { result ≡ seat_in seats.now session }
+pub fn position_of(positions: &[Position], session: u32) -> Position
+    ensures value { result ≡ position_in positions.now session }
 {
-    match seats.get(session as usize) {
-        Some(seat) => *seat,
-        None => Seat {
+    match positions.get(session as usize) {
+        Some(position) => *position,
+        None => Position {
             number: 0,
             committed: false,
         },
@@ -108,28 +108,28 @@ pub fn holds_none(holders: &[u32], session: u32) -> bool
 fn can_take(
     decls: &Decls,
     holders: &[u32],
-    seat: Seat,
+    position: Position,
     session: u32,
     latch: u32,
     call: &Call,
 ) -> bool
     requires decls { IsTrue (decls_are_valid decls.now) }
     requires call { IsTrue (call_is_valid decls.now call.now) }
-    ensures value { result ≡ can_take decls.now (slice_index holders.now) seat session latch call.now }
+    ensures value { result ≡ can_take decls.now (slice_index holders.now) position session latch call.now }
 {
-    !seat.committed
+    !position.committed
         && latch <= latch_count(decls)
         && commit_needs(decls, call, latch)
         && holder_of(holders, latch) == 0
         && holds_below(decls, holders, session, call, latch)
 }
 
-fn can_commit(decls: &Decls, holders: &[u32], seat: Seat, session: u32, call: &Call) -> bool
+fn can_commit(decls: &Decls, holders: &[u32], position: Position, session: u32, call: &Call) -> bool
     requires decls { IsTrue (decls_are_valid decls.now) }
     requires call { IsTrue (call_is_valid decls.now call.now) }
-    ensures value { result ≡ can_commit decls.now (slice_index holders.now) seat session call.now }
+    ensures value { result ≡ can_commit decls.now (slice_index holders.now) position session call.now }
 {
-    !seat.committed && holds_below(decls, holders, session, call, latch_count(decls) + 1)
+    !position.committed && holds_below(decls, holders, session, call, latch_count(decls) + 1)
 }
 
 fn session_of(event: Event) -> u32
@@ -144,22 +144,22 @@ fn session_of(event: Event) -> u32
 }
 
 /// Whether an event is possible.
-pub fn is_possible(world: &World, holders: &[u32], seats: &[Seat], event: Event) -> bool
+pub fn is_possible(world: &World, holders: &[u32], positions: &[Position], event: Event) -> bool
     requires valid { IsValid world.now }
-    ensures value { result ≡ possible_by world.now.decls (slice_index holders.now) (seat_in seats.now) event
-        (call_of world.now (session_in event) (seat_in seats.now (session_in event)).number) }
+    ensures value { result ≡ possible_by world.now.decls (slice_index holders.now) (position_in positions.now) event
+        (call_of world.now (session_in event) (position_in positions.now (session_in event)).number) }
 {
     let session = session_of(event);
-    let seat = seat_of(seats, session);
-    match call_of(world, session, seat.number) {
+    let position = position_of(positions, session);
+    match call_of(world, session, position.number) {
         None => false,
         Some(call) => match event {
             Event::Take { latch, .. } => {
-                can_take(&world.decls, holders, seat, session, latch, call)
+                can_take(&world.decls, holders, position, session, latch, call)
             }
-            Event::Commit { .. } => can_commit(&world.decls, holders, seat, session, call),
-            Event::Give { latch, .. } => seat.committed && holder_of(holders, latch) == session,
-            Event::Quit { .. } => !seat.committed,
+            Event::Commit { .. } => can_commit(&world.decls, holders, position, session, call),
+            Event::Give { latch, .. } => position.committed && holder_of(holders, latch) == session,
+            Event::Quit { .. } => !position.committed,
         },
     }
 }

@@ -8,10 +8,10 @@ use Rattle.commit_core.specs.Cells.{contents_of}
 use Rattle.commit_core.specs.Roomy.{all_cells}
 use Rattle.commit_core.specs.Valid.{updates_of}
 use Rattle.commit_core.specs.Events.{read_by, after_commit}
-use Rattle.commit_core.specs.State.{seat_in, content_in, progress_of}
+use Rattle.commit_core.specs.State.{position_in, content_in, progress_of}
 use Rattle.commit_core.proofs.Calls.{IsWithin-valid, as_many_bases}
 use Rattle.commit_core.proofs.TensorLemmas.{whole, length-all_cells}
-use Rattle.commit_core.proofs.Steps.{IsPossible, commit_is, seated_in_range}
+use Rattle.commit_core.proofs.Steps.{IsPossible, commit_is, position_in_range}
 use Rattle.commit_core.proofs.KeptLemmas.{room_to_commit}
 use Rattle.commit_core.proofs.WholeLemmas.{IsWhole-after}
 use Rattle.commit_core.proofs.cores.Core.commit.Goals as goal
@@ -25,7 +25,7 @@ enter-requires-clause-within c =
 pub enter-requires-clause-room : goal.enter-requires-clause-room
 enter-requires-clause-room c =
     let i = c.self.inside in
-    let now : IsPossible i.world.now i.holders.items i.seats.items (Commit c.args.session) = rw (← c.self.view_is) at c.requires.possible in
+    let now : IsPossible i.world.now i.holders.items i.positions.items (Commit c.args.session) = rw (← c.self.view_is) at c.requires.possible in
     let fewer = room_to_commit i.world.now _ c.args.session c.self.invariant.kept now in
     omega (arith, c.self.invariant.room, fewer)
 
@@ -34,9 +34,9 @@ invariant_of-self-in-Some c =
     let i = c.self.inside in
     let s = c.args.session in
     let call = c.in-Some.call.now in
-    let now : IsPossible i.world.now i.holders.items i.seats.items (Commit s) = rw (← c.self.view_is) at c.requires.possible in
-    let n : c.seat_of-seat.result.number ≡ (seat_in i.seats.items s).number = ap (λ x. x.number) (rw c.as_slice.ensures.value at c.seat_of-seat.ensures.value) in
-    let found : call_of i.world.now s (seat_in i.seats.items s).number ≡ Some call = ap (call_of i.world.now s) (sym n) ∙ sym c.call_of.ensures.value ∙ ap option_copied c.in-Some.is in
+    let now : IsPossible i.world.now i.holders.items i.positions.items (Commit s) = rw (← c.self.view_is) at c.requires.possible in
+    let n : c.position_of-position.result.number ≡ (position_in i.positions.items s).number = ap (λ x. x.number) (rw c.as_slice.ensures.value at c.position_of-position.ensures.value) in
+    let found : call_of i.world.now s (position_in i.positions.items s).number ≡ Some call = ap (call_of i.world.now s) (sym n) ∙ sym c.call_of.ensures.value ∙ ap option_copied c.in-Some.is in
     let len : length c.enter.new.tensors ≡ i.tensors.len = omega (arith, c.enter.auto.tensors, c.deref_mut.ensures.len) in
     let same : length c.enter.new.tensors ≡ length i.tensors.items = omega (arith, c.enter.auto.tensors, ap length c.deref_mut.ensures.value) in
     let made = subst (λ ts. contents_of (all_cells c.enter.new.tensors) ≡ with_updates (contents_of (all_cells ts)) (updates_of call)) c.deref_mut.ensures.value c.in_ok-enter-in-Some.ensures.contents in
@@ -46,11 +46,11 @@ invariant_of-self-in-Some c =
     let more = ap length entries in
     rw (whole i.tensors.len c.enter.new.tensors i.tensors.items len)
     (IsWhole-after _ _ _ _ (Commit s) c.self.invariant now refl
-    (commit_is i.world.now i.holders.items i.seats.items _ (all_cells i.tensors.items) (all_cells c.enter.new.tensors) i.journal.entries c.enter.new.journal.entries i.replies.items c.enter.new.replies.items i.lost.items
-    s c.seat_of-seat.result.number call made entries read refl
-    (seated_in_range i.world.now i.holders.items i.seats.items (Commit s) now) n
-    ∙ ap (λ o. after_commit i.world.now.decls (progress_of (record { world = i.world.now; holders = i.holders.items; seats = i.seats.items; tensors = all_cells i.tensors.items; entries = i.journal.entries; replies = i.replies.items; lost = i.lost.items })) s o) (sym found))
-    refl (length-set i.seats.items s (record { number = c.seat_of-seat.result.number; committed = true }))
+    (commit_is i.world.now i.holders.items i.positions.items _ (all_cells i.tensors.items) (all_cells c.enter.new.tensors) i.journal.entries c.enter.new.journal.entries i.replies.items c.enter.new.replies.items i.lost.items
+    s c.position_of-position.result.number call made entries read refl
+    (position_in_range i.world.now i.holders.items i.positions.items (Commit s) now) n
+    ∙ ap (λ o. after_commit i.world.now.decls (progress_of (record { world = i.world.now; holders = i.holders.items; positions = i.positions.items; tensors = all_cells i.tensors.items; entries = i.journal.entries; replies = i.replies.items; lost = i.lost.items })) s o) (sym found))
+    refl (length-set i.positions.items s (record { number = c.position_of-position.result.number; committed = true }))
     (length-all_cells c.enter.new.tensors ∙ same ∙ sym (length-all_cells i.tensors.items))
     (omega (arith, length-append {A = Entry}, spare, more)))
 
@@ -59,13 +59,13 @@ returns-clause-ok c =
     let i = c.self.inside in
     let s = c.args.session in
     let call = c.in-Some.call.now in
-    let now : IsPossible i.world.now i.holders.items i.seats.items (Commit s) = rw (← c.self.view_is) at c.requires.possible in
-    let n : c.seat_of-seat.result.number ≡ (seat_in i.seats.items s).number = ap (λ x. x.number) (rw c.as_slice.ensures.value at c.seat_of-seat.ensures.value) in
-    let found : call_of i.world.now s (seat_in i.seats.items s).number ≡ Some call = ap (call_of i.world.now s) (sym n) ∙ sym c.call_of.ensures.value ∙ ap option_copied c.in-Some.is in
+    let now : IsPossible i.world.now i.holders.items i.positions.items (Commit s) = rw (← c.self.view_is) at c.requires.possible in
+    let n : c.position_of-position.result.number ≡ (position_in i.positions.items s).number = ap (λ x. x.number) (rw c.as_slice.ensures.value at c.position_of-position.ensures.value) in
+    let found : call_of i.world.now s (position_in i.positions.items s).number ≡ Some call = ap (call_of i.world.now s) (sym n) ∙ sym c.call_of.ensures.value ∙ ap option_copied c.in-Some.is in
     let len : length c.enter.new.tensors ≡ i.tensors.len = omega (arith, c.enter.auto.tensors, c.deref_mut.ensures.len) in
     let made = subst (λ ts. contents_of (all_cells c.enter.new.tensors) ≡ with_updates (contents_of (all_cells ts)) (updates_of call)) c.deref_mut.ensures.value c.in_ok-enter-in-Some.ensures.contents in
     let read = subst (λ ts. c.enter.new.replies.items ≡ i.replies.items ++ read_by i.world.now.decls (content_in i.world.now.decls (all_cells ts)) call ∷ []) c.deref_mut.ensures.value (c.in_ok-enter-in-Some.ensures.replies i.world.now.decls) in
     rw (← c.self.view_is, whole i.tensors.len c.enter.new.tensors i.tensors.items len, found)
-    (commit_is i.world.now i.holders.items i.seats.items _ (all_cells i.tensors.items) (all_cells c.enter.new.tensors) i.journal.entries c.enter.new.journal.entries i.replies.items c.enter.new.replies.items i.lost.items
-    s c.seat_of-seat.result.number call made c.in_ok-enter-in-Some.ensures.entries read refl
-    (seated_in_range i.world.now i.holders.items i.seats.items (Commit s) now) n)
+    (commit_is i.world.now i.holders.items i.positions.items _ (all_cells i.tensors.items) (all_cells c.enter.new.tensors) i.journal.entries c.enter.new.journal.entries i.replies.items c.enter.new.replies.items i.lost.items
+    s c.position_of-position.result.number call made c.in_ok-enter-in-Some.ensures.entries read refl
+    (position_in_range i.world.now i.holders.items i.positions.items (Commit s) now) n)

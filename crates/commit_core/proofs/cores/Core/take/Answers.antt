@@ -9,17 +9,17 @@ use Rattle.commit_core.proofs.cores.Core.take.Goals as goal
 pub returns-clause-value : goal.returns-clause-value
 returns-clause-value c =
     let i = c.self.inside in
-    let now : IsPossible i.world.now i.holders.items i.seats.items (Take c.args.session c.args.latch) = rw (← c.self.view_is) at c.requires.possible in
-    let low : c.args.latch ≤ journal_latch i.world.now.decls = take_in_range i.world.now i.holders.items i.seats.items c.args.session c.args.latch now in
+    let now : IsPossible i.world.now i.holders.items i.positions.items (Take c.args.session c.args.latch) = rw (← c.self.view_is) at c.requires.possible in
+    let low : c.args.latch ≤ journal_latch i.world.now.decls = take_in_range i.world.now i.holders.items i.positions.items c.args.session c.args.latch now in
     let in' : c.args.latch < length i.holders.items = omega (arith, c.self.invariant.latches) in
-    rw (← c.self.view_is) (take_is i.world.now i.holders.items _ i.seats.items (all_cells i.tensors.items) i.journal.entries i.replies.items i.lost.items c.args.session c.args.latch refl in')
+    rw (← c.self.view_is) (take_is i.world.now i.holders.items _ i.positions.items (all_cells i.tensors.items) i.journal.entries i.replies.items i.lost.items c.args.session c.args.latch refl in')
 
 pub invariant_of-self : goal.invariant_of-self
 invariant_of-self c =
     let i = c.self.inside in
-    let now : IsPossible i.world.now i.holders.items i.seats.items (Take c.args.session c.args.latch) = rw (← c.self.view_is) at c.requires.possible in
-    let low : c.args.latch ≤ journal_latch i.world.now.decls = take_in_range i.world.now i.holders.items i.seats.items c.args.session c.args.latch now in
+    let now : IsPossible i.world.now i.holders.items i.positions.items (Take c.args.session c.args.latch) = rw (← c.self.view_is) at c.requires.possible in
+    let low : c.args.latch ≤ journal_latch i.world.now.decls = take_in_range i.world.now i.holders.items i.positions.items c.args.session c.args.latch now in
     let in' : c.args.latch < length i.holders.items = omega (arith, c.self.invariant.latches) in
     IsWhole-after _ _ _ _ (Take c.args.session c.args.latch) c.self.invariant now refl
-    (take_is i.world.now i.holders.items _ i.seats.items (all_cells i.tensors.items) i.journal.entries i.replies.items i.lost.items c.args.session c.args.latch refl in')
+    (take_is i.world.now i.holders.items _ i.positions.items (all_cells i.tensors.items) i.journal.entries i.replies.items i.lost.items c.args.session c.args.latch refl in')
     (length-set i.holders.items c.args.latch c.args.session) refl refl refl
