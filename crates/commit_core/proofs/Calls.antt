@@ -7,7 +7,7 @@ use Rattle.std.proofs.lemmas.Option.{slice_get-get_or, slice_get_past}
 use Rattle.std.proofs.lemmas.List.Elements.{All-weaker}
 use Rattle.std.proofs.lemmas.List.Sums.{AllPass-from_list_all, sum_by-le}
 use Rattle.dt_model.specs.declared.declared_tensors.TensorDecl.{TensorDecl}
-use Rattle.dt_model.specs.Tensors.{first_latch, dims_of}
+use Rattle.dt_model.specs.Tensors.{first_latch}
 use Rattle.dt_model.specs.Latches.{is_latch_of}
 use Rattle.std.proofs.lemmas.Bool.Decides.{nat_tests}
 use Rattle.dt_model.specs.declared.calls.Call.{Call}
@@ -16,11 +16,12 @@ use Rattle.dt_model.specs.declared.replies.Verdict.{Verdict}
 use Rattle.dt_model.specs.declared.replies.Verdict.TheVariants.{Accepted, Refused}
 use Rattle.dt_model.specs.declared.declared_tensors.Decls.{Decls}
 use Rattle.dt_model.specs.declared.replies.World.{World}
-use Rattle.dt_model.specs.Verdicts.{call_is_valid, cell_is_valid, all_in_range, update_cell}
+use Rattle.dt_model.specs.Verdicts.{call_is_valid, update_cell}
 use Rattle.dt_model.specs.Worlds.{IsValid, verdict_is_valid}
 use Rattle.dt_model.specs.Runs.{call_of, call_in, verdict_at}
-use Rattle.dt_model.proofs.TestLemmas.{both_true, first_true, last_true, list_all-at}
-use Rattle.commit_core.specs.Valid.{IsWithin, updates_of}
+use Rattle.dt_model.proofs.TestLemmas.{both_true}
+use Rattle.dt_model.specs.Calls.{IsWithin}
+use Rattle.commit_core.specs.Valid.{updates_of}
 use Rattle.commit_core.specs.Turns.{script_of, lines_in, next_after}
 
 -- what passes of all passes of the one at a place
@@ -122,24 +123,8 @@ lines_are_few w v =
 
 -- ---- the cells of a call
 
--- the cells of a valid call are of the declared tensors
-pub IsWithin-valid : (d : Decls) (n : ℕ) (call : Call) → length d.tensors ≡ n → call_is_valid d call ≡ true → IsWithin n call
-IsWithin-valid d n (Get cell) e h =
-    let less : nat_lt cell.tensor (length d.tensors) ≡ true = first_true (nat_lt cell.tensor (length d.tensors)) (all_in_range (dims_of d cell.tensor) cell.at) h in
-    grind (arith, nat_tests)
-IsWithin-valid d n (Batch updates) e h = λ k u l.
-    let all = last_true (nat_le 1 (length updates) && nat_le (length updates) 64) (list_all (λ x. cell_is_valid d (update_cell x)) updates) h in
-    let cell = update_cell (get_or updates k u) in
-    let less : nat_lt cell.tensor (length d.tensors) ≡ true = first_true (nat_lt cell.tensor (length d.tensors)) (all_in_range (dims_of d cell.tensor) cell.at) (list_all-at (λ x. cell_is_valid d (update_cell x)) updates k u l all) in
-    grind (arith, nat_tests)
-IsWithin-valid d n (Query stmt) e h = tt
-
 -- the cells of its updates are among those of a call
 pub updates_within : (n : ℕ) (call : Call) → IsWithin n call → All (λ u. (update_cell u).tensor < n) (updates_of call)
 updates_within n (Get cell) h = λ k u l. absurd (omega arith)
 updates_within n (Batch updates) h = h
 updates_within n (Query stmt) h = λ k u l. absurd (omega arith)
-
--- a valid World has loaded lines for each declared tensor
-pub as_many_bases : (w : World) → IsValid w → length w.decls.tensors ≡ length w.base
-as_many_bases w valid = let h = valid.tensors in grind (arith, nat_tests)

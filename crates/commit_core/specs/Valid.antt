@@ -1,5 +1,5 @@
--- The updates of a call, and whether its cells are in range.
-use Rattle.std.specs.Prelude.{ℕ, ◌<◌, Bool, List, [], All}
+-- The updates of a call, and whether their cells are in range.
+use Rattle.std.specs.Prelude.{Bool, List, []}
 use Rattle.std.specs.List.{list_all}
 use Rattle.dt_model.specs.declared.calls.Update.{Update}
 use Rattle.dt_model.specs.declared.calls.Call.{Call}
@@ -16,9 +16,3 @@ abbrev pub updates_of : Call → List Update
 updates_of (Get cell) = []
 updates_of (Batch updates) = updates
 updates_of (Query stmt) = []
-
--- each cell of the call is one of the first n tensors
-abbrev pub IsWithin : ℕ → Call → Type 0
-IsWithin n (Get cell) = cell.tensor < n
-IsWithin n (Batch updates) = All (λ u. (update_cell u).tensor < n) updates
-IsWithin n (Query stmt) = Unit {0}

@@ -3,7 +3,8 @@ ghost use Rattle.dt_model.specs.Contents.{with_updates};
 ghost use Rattle.dt_model.specs.declared.declared_tensors.Decls.{Decls};
 ghost use Rattle.commit_core.specs.Cells.{contents_of};
 ghost use Rattle.commit_core.specs.Roomy.{all_cells};
-ghost use Rattle.commit_core.specs.Valid.{updates_of, IsWithin};
+ghost use Rattle.dt_model.specs.Calls.{IsWithin};
+ghost use Rattle.commit_core.specs.Valid.{updates_of};
 ghost use Rattle.commit_core.specs.Events.{read_by, without_session};
 ghost use Rattle.commit_core.specs.State.{content_in};
 

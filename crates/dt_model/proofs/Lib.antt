@@ -8,6 +8,7 @@ pub mod Histories
 pub mod LastEntry
 pub mod Lengths
 pub mod Lines
+pub mod CallLemmas
 pub mod ReportWords
 pub mod Reports
 pub mod Examples

@@ -1,11 +1,11 @@
 pub mod Names
 pub mod JournalValue
-pub mod Calls
 pub mod Contents
 pub mod Tensors
 pub mod Statements
 pub mod Refusals
 pub mod Verdicts
+pub mod Calls
 pub mod Latches
 pub mod Worlds
 pub mod Runs

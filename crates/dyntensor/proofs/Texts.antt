@@ -17,7 +17,7 @@ use Rattle.dt_model.proofs.Growing.{lines_rows-same, lines_rows-push, text_of-ap
 use Rattle.sessions.specs.Running.{Running}
 use Rattle.dyntensor.specs.ScriptRun.{StepsTo, IsSoFar, IsRun, MayRun}
 use Rattle.dyntensor.specs.Stops.{IsOneSession, AsksNoQuery}
-use Rattle.commit_core.proofs.Calls.{IsWithin-valid, as_many_bases}
+use Rattle.dt_model.proofs.CallLemmas.{IsWithin-valid, as_many_bases}
 use Rattle.dyntensor.proofs.Validity.{valid_script}
 use Rattle.dt_model.specs.Worlds.{verdict_is_valid}
 use Rattle.dt_model.proofs.TestLemmas.{list_all-at}

@@ -10,9 +10,8 @@ use Rattle.dt_model.specs.declared.replies.Verdict.TheVariants.{Accepted, Refuse
 use Rattle.dt_model.specs.declared.replies.World.{World}
 use Rattle.dt_model.specs.Report.{call_rows, line_rows}
 use Rattle.dt_model.specs.Texts.{text_of}
-use Rattle.dt_model.specs.Calls.{IsNoGet}
+use Rattle.dt_model.specs.Calls.{IsNoGet, IsWithin}
 use Rattle.dt_model.specs.Runs.{fold_of, call_of, reply_to, has_turn, Rises}
-use Rattle.commit_core.specs.Valid.{IsWithin}
 use Rattle.sessions.specs.Running.{Running, IsRunOf, IsNoQuery}
 
 -- the entry of line n of session 1

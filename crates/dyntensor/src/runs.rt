@@ -2,7 +2,7 @@ ghost use Rattle.std.specs.Prelude.{◌≡◌, ◌<◌, ◌≤◌, ◌++◌, [],
 ghost use Rattle.dt_model.specs.Texts.{text_of};
 ghost use Rattle.dt_model.specs.Runs.{reply_at};
 ghost use Rattle.dt_model.specs.Report.{lines_rows, PrintsRun};
-ghost use Rattle.commit_core.specs.Valid.{IsWithin};
+ghost use Rattle.dt_model.specs.Calls.{IsWithin};
 ghost use Rattle.sessions.specs.Running.{IsNoQuery, IsPlain};
 ghost use Rattle.dyntensor.specs.ScriptRun.{StepsTo, IsSoFar, MayRun, IsRun};
 ghost use Rattle.dyntensor.specs.Stops.{IsOneSession};

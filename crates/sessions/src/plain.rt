@@ -1,11 +1,10 @@
 ghost use Rattle.std.specs.Prelude.{◌≡◌, ◌<◌, ◌≤◌, [], ◌∷◌, ◌++◌, length, IfOk, OnOk, OnErr, IfErr, Some};
 ghost use Rattle.dt_model.specs.declared.declared_tensors.Decls.{Decls};
 ghost use Rattle.dt_model.specs.declared.replies.World.{World};
-ghost use Rattle.dt_model.specs.Calls.{IsNoGet};
+ghost use Rattle.dt_model.specs.Calls.{IsNoGet, IsWithin};
 ghost use Rattle.dt_model.specs.Runs.{after_call, reply_to, reply_of, fold_of};
 ghost use Rattle.commit_core.specs.Cells.{contents_of};
 ghost use Rattle.commit_core.specs.Roomy.{all_cells};
-ghost use Rattle.commit_core.specs.Valid.{IsWithin};
 ghost use Rattle.sessions.specs.Running.{IsRunOf, IsNoQuery, IsPlain};
 
 use commit_core::{CellList, apply_all, loaded, number_at, reserve_all};

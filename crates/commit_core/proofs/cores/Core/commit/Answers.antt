@@ -9,7 +9,7 @@ use Rattle.commit_core.specs.Roomy.{all_cells}
 use Rattle.commit_core.specs.Valid.{updates_of}
 use Rattle.commit_core.specs.Events.{read_by, after_commit}
 use Rattle.commit_core.specs.State.{position_in, content_in, progress_of}
-use Rattle.commit_core.proofs.Calls.{IsWithin-valid, as_many_bases}
+use Rattle.dt_model.proofs.CallLemmas.{IsWithin-valid, as_many_bases}
 use Rattle.commit_core.proofs.TensorLemmas.{whole, length-all_cells}
 use Rattle.commit_core.proofs.Steps.{IsPossible, commit_is, position_in_range}
 use Rattle.commit_core.proofs.KeptLemmas.{room_to_commit}
