@@ -82,7 +82,7 @@ pub record Foreign (old : SeatState) (e : Entry) : Type 0 where
   pub session : ¬ ((old.first ≤ e.turn.session) × (e.turn.session ≤ old.last))
   pub latch : (h : ℕ × ℕ) → In h old.held → ¬ Touches old.terms h.0 e
 
--- a take: the latch is held for the session, the value is good for the entries that are seen now, and the machine took it
+-- a take: the latch is held for the session, the value is good for the entries that are seen now, and the machine may take it
 pub record HasGot {C : Type 0} (good : Terms → List Entry → ℕ → kept.Kept C → Type 0) (l s : ℕ) (old : SeatState) (y : kept.Kept C) (new : SeatState) : Type 0 where
   pub rest : new ≡ record old { held = (l, s) ∷ old.held; seen = new.seen }
   pub grown : Past (Foreign old) old.seen new.seen

@@ -23,7 +23,7 @@ use Rattle.fiber_latch.specs.Made.{MadeTake, FoundHeld, MadeCommit, MadeGive}
 abbrev pub listed : View → ℕ → ℕ → Mark → List Hold → View
 listed v l s m hs = record v { held = hold l s m ∷ hs }
 
--- a take tells the slot's value and pass and the machine's take, or the session that it found, which is none of the seat's
+-- a take tells the slot's value and pass and that the machine may take it, or the session that it found, which is none of the seat's
 abbrev pub Takes : {C : Type 0} → (Terms → List Entry → ℕ → kept.Kept C → Type 0) → Step (Option (SlotValue C)) → Me (Option (SlotValue C)) View → ℕ → Me (Option (SlotValue C)) View → Type 0
 Takes {C} good st me n me' =
     (n ≡ 0 → (y : SlotValue C) × (u : View) × ((me' ≡ (listed me.0 st.word st.second Taken me.0.held, (st.word, Some y) ∷ me.1)) × (y.pass.views ≡ u ∷ []) × (y.pass.table_id ≡ id_of me.0.table) × (u.role ≡ Pass st.word) × good me.0.terms u.seen st.word y.kept × ((made : MadeTake me.0.terms me.0.seen st.second st.word) × Begins u.seen made.before.history)))
@@ -38,7 +38,7 @@ head_hold (h ∷ hs) = h
 abbrev pub top_session : View → ℕ
 top_session v = (head_hold v.held).session
 
--- the latch that was taken last is listed no more, and the machine gave it back
+-- the latch that was taken last is listed no more, and the machine may give it back
 abbrev pub Gives : {C : Type 0} → Step (Option (SlotValue C)) → Me (Option (SlotValue C)) View → ℕ → Me (Option (SlotValue C)) View → Type 0
 Gives st me n me' = (me' ≡ (record me.0 { held = behind me.0.held }, rest me.1)) × MadeGive me.0.terms me.0.seen (top_session me.0) st.word
 
@@ -82,7 +82,7 @@ new_pass v = pass_view v.table v.terms (top_latch v.held) v.seen
 
 -- ---- commit
 
--- one entry more is seen, and the machine committed it
+-- one entry more is seen, and the machine may commit it
 abbrev pub Commits : {C : Type 0} → Entry → Step (Option (SlotValue C)) → Me (Option (SlotValue C)) View → ℕ → Me (Option (SlotValue C)) View → Type 0
 Commits e st me n me' = (me' ≡ (record me.0 { seen = me.0.seen ++ e ∷ [] }, me.1)) × MadeCommit me.0.terms me.0.seen e
 
