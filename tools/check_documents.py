@@ -13,12 +13,9 @@ How a document names things, so that they can be looked up:
 - A call is `crate::call`, `crate::Type::method` or `crate::Type`, as the crate's root gives it out; what follows a `(`
   or `<` isn't read. In a crate's README that crate's may be written `Type::method`, and `call` where calls are listed.
   Those of std, of a primitive type or of a library that crates.txt names aren't looked up.
-- Clauses are named by the word: clause `label`, or clauses `first`, `second` and `third`. Each is one of each call
-  listed before them (last in the paragraph, list item or table row), or of those in: clause `label` of `crate::call`
-  and `crate::other`. A list is joined by commas, `/`, dashes, 'and' or 'or', and may have words in parentheses.
-- Tests, definitions, lemmas and theorems are named by these words: test `name`, definitions `first` and `Second`. A
-  crate's README names its own tests and lemmas, and definitions of its own and of what it stands on; other documents
-  those of any crate. A name with a file behind it, `name` of `specs/File.antt`, is one of that file.
+- Behind a claim stands what carries it: `[call: clause, clause]`, several calls joined by `;`. Each clause is one of that
+  call's contract. For lemmas and tests the call is the word: `[lemma: name]`, `[test: name]`. A crate's README names its
+  own lemmas and tests; other documents those of any crate. Each item under Proved of a crate's README has such a bracket.
 - An edit is `name.edit`: of the README's crate, or of any crate.
 - A path has a `/` or one of the endings in paths.py, in a code span or outside, and in a block of commands. It is looked
   up from the top, from the document's folder and, in a crate's README, from that crate's src/; a bare name of a file or
@@ -28,25 +25,37 @@ How a document names things, so that they can be looked up:
 - A block whose opening line is ```text FILE shows that file byte for byte, FILE being its path from the top.
 - README.md shows the stored run of the program: such a block for each file in its data/ and for its stdout, and a
   line `$ dyntensor WORDS` with the words of its file args.
-- A row of a promise in docs/CLAIMS.md has behind it: `crate::call` clause `label` | `name.edit` | test `name`.
+- A row of a promise in docs/CLAIMS.md has behind it: `[crate::call: clause]` | `name.edit` | `[test: name]`.
+- A crate's README has at most 600 words, blocks left out. Under Calls stands a ```rust block, whose lines stand together
+  in a source file of that crate, as a test has them. The README of fiber_latch lists its kinds of steps.
+- docs/DEFINITIONS.md names each file of specs/, unless that file's head says that no public clause cites it.
+- docs/FORMATS.md has in its table of limits the name and the number of each limit of crates/dt_model/src/limits.rt.
 - An entry of docs/DECISIONS.md with a line that begins with 'Superseded' keeps its old names, which aren't looked up.
 - examples/NAME/ has args, data/, stdout and, if it isn't 0, status, as the program's own stored run.
+
+Of sources it checks that each file of src/ begins with `//!`, that `///` stands on each function (tests, the functions
+beside them in a file or folder `tests`, and what implements a trait excepted), that a line of meaning stands over each
+definition in specs/ and each `pub` lemma in proofs/, and that no line of these two but an import is over 160 columns. A
+must-fail edit changes code or a definition, and no `requires`, `ensures` or ghost.
 """
 
 import os
+import re
 import sys
 from functools import cached_property
 from pathlib import Path
 
-from markdown import SPAN, bare, read_document, table_under
+from layout import check_comments, check_definitions, check_edits, check_heads, check_limits, check_meanings, check_steps, check_width
+from markdown import SPAN, bare, read_document, sentences_of, table_under
 from names import FOREIGN, check_names, check_promises
 from paths import check_markdown, home_of
+from readmes import check_readmes, is_crate_readme
 from sources import function_sizes, read_crates
 from stored_runs import check_examples, check_shown_files
 
 CRATE_HEADINGS = ["Calls", "What a contract sees", "Proved", "Only tested", "Not said", "Stands on"]
 HOUSE_HEADINGS = ["What it does", "Build, check, run", "The promise", "Crates", "Only tested", "Not claimed", "Trusted"]
-README_LINES = 60
+SENTENCE_AIM = 25
 HARD_LIMIT = 800
 FILE_AIMS = {"src": 400, "specs": 150, "proofs": 120}
 FUNCTION_AIM, CRATE_AIM = 40, 100
@@ -81,7 +90,7 @@ class Check:
 
 
 def all_files(top):
-    """Every file of the repository from its top, but for what is built and the fixtures of this check."""
+    """Every file of the repository from its top, except what is built and the fixtures of this check."""
     found = []
     for at, folders, names in os.walk(top):
         folders[:] = sorted(it for it in folders if it not in SKIPPED and f"{at}/{it}" != f"{top}/tools/fixtures")
@@ -164,10 +173,17 @@ def check_headings(check):
     for document in check.documents:
         if document.path == "README.md":
             check_order(check, document, HOUSE_HEADINGS)
-        elif home_of(check, document.path) and document.path.count("/") == 2:
+        elif is_crate_readme(check, document):
             check_order(check, document, CRATE_HEADINGS)
-            if len(document.lines) > README_LINES:
-                check.fault(document.path, README_LINES + 1, f"it has {len(document.lines)} lines", f"shorten it to {README_LINES} at most")
+
+
+def check_sentences(check):
+    """Notes how many sentences of a document are longer than aimed at."""
+    for document in check.documents:
+        counts = [len(re.findall(r"[\w'^-]+", it)) for block in document.blocks for it in sentences_of(block)]
+        long = [it for it in counts if it > SENTENCE_AIM]
+        if long:
+            check.notes.append(f"{document.path}: {len(long)} sentences of more than {SENTENCE_AIM} words, the longest of {max(long)}")
 
 
 def check_stands_on(check):
@@ -219,13 +235,18 @@ def check_functions(check, crate):
         check.notes.append(f"crates/{crate.name}: {count} functions, where {CRATE_AIM} are aimed at")
 
 
+RULES = [check_crates, check_forms, check_promises, check_names, check_headings, check_sentences, check_stands_on]
+RULES += [check_shown_files, check_examples, check_sizes, check_edits, check_limits]
+RULES += [check_heads, check_comments, check_meanings, check_width, check_readmes, check_definitions, check_steps]
+
+
 def main(words):
     top = Path(words[0] if words else Path(__file__).resolve().parent.parent)
     if not (top / "crates.txt").is_file():
         print(f"{top}/crates.txt:1: there is no such file; give the top of a checkout")
         return 1
     check = Check(top)
-    for rule in (check_crates, check_forms, check_promises, check_names, check_headings, check_stands_on, check_shown_files, check_examples, check_sizes):
+    for rule in RULES:
         rule(check)
     for note in check.notes:
         print(f"note: {note}")

@@ -59,6 +59,11 @@ class Document:
     def sections(self, level):
         return [(line, title) for line, depth, title in self.headings if depth == level]
 
+    def section_lines(self, title):
+        """The lines under a heading, to the next one of its level."""
+        starts = [line for line, _ in self.sections(2)] + [len(self.lines) + 1]
+        return next((range(line + 1, end) for (line, name), end in zip(self.sections(2), starts[1:]) if name == title), range(0))
+
 
 def read_document(path, text):
     """The document of a text."""
@@ -98,6 +103,12 @@ def add_line(document, number, line, starts_anew):
     else:
         document.blocks[-1].text += "\n" + line
     return heading is not None
+
+
+def sentences_of(block):
+    """The sentences of a paragraph, list item or table row, where a code span or a link counts as a word; `;` and `:` end one too."""
+    text = LINK.sub("]", SPAN.sub("span", block.text))
+    return [it for part in re.split(r"(?<!\\)\|", text) for it in re.split(r"(?<=[.?!;:])\s+", part)]
 
 
 def cells_of(row):

@@ -1,33 +1,29 @@
-"""The rule of the document check on names: calls and their clauses, tests, definitions, lemmas, edits and all other names."""
+"""The rule of the document check on names: calls and their clauses, lemmas, tests, edits and all other names."""
 
 import fnmatch
 import re
 
 from markdown import SPAN, table_under
-from paths import ENDINGS, check_links, check_paths, home_of, whole_paths
-from sources import names_in
+from paths import ENDINGS, check_links, check_paths, home_of
 
 CALL = re.compile(r"([a-z][a-z0-9_]*)::([A-Za-z_][A-Za-z0-9_]*(?:::[A-Za-z_][A-Za-z0-9_]*)*)")
 METHOD = re.compile(r"[A-Z][A-Za-z0-9_]*::[A-Za-z_][A-Za-z0-9_]*")
 EDIT = re.compile(r"[A-Za-z0-9_*-]+\.edit")
 NAME = re.compile(r"[A-Za-z_][A-Za-z0-9_]*(?:[.-][A-Za-z0-9_]+)*")
 NAME_WITHOUT_SPAN = re.compile(r"\b[A-Za-z]\w*(?:_|::)\w[\w:]*")
-# Code spans one behind the other, with nothing between them but commas, `/`, dashes, `and`, `or` and words in parentheses.
-JOINT = r"(?:[\s,/&*–—-]|\band\b|\bor\b|\bnor\b|\([^()`]*\))+"
-LIST = re.compile(rf"`[^`]+`(?:{JOINT}`[^`]+`)*")
-OF_KIND = re.compile(rf"\b(clause|test|definition|lemma|theorem)s?\b[\s(:*]*(?:(?:both|either|named)\s+)?({LIST.pattern})", re.I)
-BEFORE_KIND = re.compile(r"`([^`]+)`\s+(clause|test|definition|lemma|theorem)s?\b", re.I)
-OF_CALLS = re.compile(rf"\s+of\s+({LIST.pattern})")
-IN_FILE = re.compile(rf"({LIST.pattern})(?:[\s,]+(?:of|in)\s+|\s*\()`([^`]+\.(?:rt|antt))`")
+# What stands behind a claim: `[call: clause, clause; other_call: clause]`, `[lemma: name]` or `[test: name]`.
+CLAIM = re.compile(r"`\[([^`\]]*)\]`")
+CLAIM_PART = re.compile(r"\s*([^\s:]+(?:::[^\s:]+)*):\s+(\S+(?:,\s*\S+)*)\s*")
+STATED = {"lemma": lambda crate: crate.lemmas, "test": lambda crate: crate.tests}
 FOREIGN = {"std", "bool", "char", "str", *(f"{kind}{size}" for kind in "iu" for size in (8, 16, 32, 64, 128, "size"))}
 # What the cells of a promise behind its sentence are.
 PROMISE_CELLS = [
-    ("a call with its clause", re.compile(r".*::.*\bclauses? `.*")),
+    ("calls with their clauses", re.compile(rf"{CLAIM.pattern}(,? {CLAIM.pattern})*")),
     ("edits", re.compile(r"(`[^`]+\.edit`(, `[^`]+\.edit`)*)?")),
-    ("tests", re.compile(rf"(tests? {LIST.pattern})?")),
+    ("tests", re.compile(r"(`\[test: [^`]*\]`)?")),
 ]
 # Words of scripts, of the standard library and of grammars that documents use beside the names of the code.
-KNOWN_WORDS = {"set", "add", "get", "Box", "cmp", "NAME", "FILE"}
+KNOWN_WORDS = {"set", "add", "get", "batch", "query", "tensor", "load", "session", "print", "schema", "order", "name", "twice", "rank", "whole", "number", "nan", "Box", "cmp", "NAME", "FILE"}
 
 
 def check_names(check):
@@ -47,7 +43,7 @@ def check_promises(check):
     for line, cells in table_under(document, "Promise") if document else []:
         for cell, (what, form) in zip(cells[1:], PROMISE_CELLS):
             if not form.fullmatch(cell):
-                check.fault(document.path, line, f"the cell '{cell}' isn't {what}", "write: `crate::call` clause `label` | `name.edit` | test `name`")
+                check.fault(document.path, line, f"the cell '{cell}' isn't {what}", "write: `[crate::call: clause]` | `name.edit` | `[test: name]`")
 
 
 def check_commands(check, path, fence):
@@ -55,7 +51,7 @@ def check_commands(check, path, fence):
     for line, text in enumerate(fence.text.splitlines(), fence.line + 1):
         check_paths(check, path, line, text)
         for name in NAME_WITHOUT_SPAN.findall(text):
-            if "::" in name:
+            if name.split("::")[0] in check.by_name:
                 check_call(check, path, line, name)
 
 
@@ -69,19 +65,13 @@ def superseded_lines(document):
 
 
 def check_block(check, path, block):
-    """Looks up all that a paragraph, list item or table row names, each thing once."""
-    phrases = [(found, spans_of_kind(block, found)) for found in OF_KIND.finditer(block.text)]
-    of_kind = {span.start() for _, spans in phrases for span in spans}
-    for found, spans in phrases:
-        check_listed(check, path, block, found, [it[1] for it in spans], of_kind)
+    """Looks up all that a paragraph, list item or table row names."""
     for found in SPAN.finditer(block.text):
-        if found.start() not in of_kind:
-            check_span(check, path, block.line_at(found.start()), " ".join(found[1].split()))
-    for found in IN_FILE.finditer(block.text):
-        check_in_file(check, path, block, found)
-    for found in BEFORE_KIND.finditer(block.text):
-        if found.start() not in of_kind and not call_in(check, path, found[1]):
-            check.fault(path, block.line_at(found.start()), f"`{found[1]}` stands before the word {found[2]}", f"write it behind: {found[2]} `{found[1]}`")
+        line, span = block.line_at(found.start()), " ".join(found[1].split())
+        if span.startswith("[") and ":" in span:
+            check_claim(check, path, line, span)
+        else:
+            check_span(check, path, line, span)
     check_links(check, path, block)
     check_plain(check, path, block)
 
@@ -148,7 +138,8 @@ def check_edit(check, path, line, name):
 
 def check_word(check, path, line, name):
     home = home_of(check, path)
-    known = (home or check).words, check.by_name, KNOWN_WORDS
+    # a constant is mostly a limit, which a lower crate has
+    known = (home or check).words if not name.isupper() else check.words, check.by_name, KNOWN_WORDS
     parts = [name] if any(name in it for it in known) else name.split(".")
     if not all(any(part in it for it in known) for part in parts):
         where = f"crates/{home.name}" if home else "any crate"
@@ -160,76 +151,38 @@ def home_or_all(check, path):
     return [home] if home else check.crates
 
 
-# ---- what a phrase says of names
+# ---- what stands behind a claim
 
 
-def spans_of_kind(block, found):
-    """The spans of a phrase that are clauses, tests, definitions or lemmas: those of its list but for calls, edits and paths."""
-    is_test = found[1].lower() == "test"
-    spans = SPAN.finditer(block.text, *found.span(2))
-    return [it for it in spans if "/" not in it[1] and not it[1].endswith(ENDINGS) and ("::" not in it[1] or is_test)]
-
-
-def check_listed(check, path, block, found, names, of_kind):
-    kind, line = found[1].lower(), block.line_at(found.start())
-    if kind == "clause":
-        check_clauses(check, path, line, names, calls_of_clauses(check, path, block, found, of_kind))
-        return
-    for name in names:
-        if kind == "test":
-            check_test(check, path, line, name)
+def check_claim(check, path, line, span):
+    """Each part names a call with clauses of its contract, or lemmas, or tests."""
+    for part in span.strip("[]").split(";"):
+        found = CLAIM_PART.fullmatch(part)
+        if not found or not span.endswith("]"):
+            check.fault(path, line, f"`{span}` is no list of calls with their clauses", "write `[call: clause, clause; other_call: clause]`")
+            return
+        names = [it.strip() for it in found[2].split(",")]
+        if found[1] in STATED:
+            check_stated(check, path, line, found[1], names)
         else:
-            check_stated(check, path, line, kind, name)
+            check_clauses(check, path, line, found[1], names)
 
 
-def check_stated(check, path, line, kind, name):
-    """A lemma is of the README's crate, and a definition of it or of one that it stands on; elsewhere they are of any."""
+def check_stated(check, path, line, kind, names):
+    """Lemmas and tests of the README's crate; elsewhere of any."""
     home = home_of(check, path)
-    lower = [check.by_name[it] for it in home.libraries if it in check.by_name] if home and kind == "definition" else []
-    crates = home_or_all(check, path) + lower
-    if not any(name in (crate.definitions if kind == "definition" else crate.lemmas) for crate in crates):
-        where = f"crates/{home.name}" if home else "any crate"
-        folder = "specs" if kind == "definition" else "proofs"
-        check.fault(path, line, f"the {kind} `{name}` isn't in the {folder} of {where}", "name it as it is there, or drop the claim")
+    for name in names:
+        if not any(name in STATED[kind](crate) for crate in home_or_all(check, path)):
+            where = f"crates/{home.name}" if home else "any crate"
+            check.fault(path, line, f"the {kind} `{name}` isn't in {where}", "name it as it is there, or drop the claim")
 
 
-def calls_of_clauses(check, path, block, found, of_kind):
-    """The calls behind `of`, or else those of the last list before that has some."""
-    behind = OF_CALLS.match(block.text, found.end())
-    if behind:
-        return [it for it in (call_in(check, path, span) for span in SPAN.findall(behind[1])) if it]
-    before = []
-    for spans in LIST.finditer(block.text, 0, found.start(2)):
-        free = [it[1] for it in SPAN.finditer(block.text, *spans.span()) if it.start() not in of_kind]
-        before = [it for it in (call_in(check, path, span) for span in free) if it] or before
-    return before
-
-
-def check_clauses(check, path, line, names, calls):
-    """Each of the clauses is of the contract of each of the calls."""
-    if not calls and names:
-        check.fault(path, line, f"the clause `{names[0]}` has no call", "name its call before it, or behind it as in: clause `label` of `crate::call`")
-    for crate, item in calls:
-        labels = crate.labels_of(item)
-        for name in names:
-            if labels is not None and name not in labels:
-                has = ", ".join(sorted(labels)) or "none"
-                wrong = f"the clause `{name}` isn't in the contract of {crate.name}::{item} (it has {has})"
-                check.fault(path, line, wrong, "name the clause as it is there, or drop the claim")
-
-
-def check_test(check, path, line, name):
-    *parts, test = name.split("::")
-    crates = [check.by_name[parts[0]]] if parts and parts[0] in check.by_name else home_or_all(check, path)
-    if not any(test in crate.tests for crate in crates):
-        where = f"crates/{crates[0].name}/src" if len(crates) == 1 else "any crate"
-        check.fault(path, line, f"the test `{name}` isn't in {where}", "name one that is there, or write it")
-
-
-def check_in_file(check, path, block, found):
-    """Names with their file behind them, as in: `Name` of `specs/File.antt`, are in that file."""
-    file = next((check.top / it for it in whole_paths(check, path, found[2]) if (check.top / it).is_file()), None)
-    for span in SPAN.findall(found[1]):
-        name = bare_name(span).split("::")[-1]
-        if file and NAME.fullmatch(name) and name not in names_in(file):
-            check.fault(path, block.line_at(found.start(2)), f"`{name}` isn't in {found[2]}", "name the file that has it")
+def check_clauses(check, path, line, called, names):
+    """Each of the clauses is of the contract of the call."""
+    check_call(check, path, line, called)
+    crate, item = call_in(check, path, called) or (None, None)
+    labels = crate.labels_of(item) if crate else None
+    for name in names if labels is not None else []:
+        if name not in labels:
+            wrong = f"the clause `{name}` isn't in the contract of {crate.name}::{item} (it has {', '.join(sorted(labels)) or 'none'})"
+            check.fault(path, line, wrong, "name the clause as it is there, or drop the claim")

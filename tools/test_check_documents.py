@@ -134,6 +134,11 @@ class Documents(unittest.TestCase):
         self.assertIn("note: crates/low/src/lib.rt: 431 lines, where 400 are aimed at", notes)
         self.assertIn("note: crates/low/src/lib.rt:30: last_of_three has 400 lines, where 40 are aimed at", notes)
 
+    def test_long_sentences_are_notes(self):
+        status, faults, notes = self.in_tree([("file", "crates/low/README.md"), ("old", "How long it takes."), ("new", "How long " + "and how much " * 10 + "it takes.")])
+        self.assertEqual((status, faults), (0, []))
+        self.assertIn("note: crates/low/README.md: 1 sentences of more than 25 words, the longest of 34", notes)
+
     def test_no_checkout_is_refused(self):
         with tempfile.TemporaryDirectory() as room:
             ran = subprocess.run([sys.executable, "-B", HERE / "check_documents.py", room], capture_output=True, text=True)

@@ -1,33 +1,25 @@
 -- Cells in ascending order, one list a tensor, and the contents that they stand for.
-use Rattle.std.specs.Prelude.{ℕ, ◌≡◌, ◌<◌, ◌≤◌, List, [], ◌∷◌, length, if◌then◌else◌, nat_eq, slice_index_or}
+use Rattle.std.specs.Prelude.{ℕ, ◌≡◌, ◌<◌, ◌≤◌, ◌==◌, not, List, [], length, filter, if◌then◌else◌, nat_eq, slice_index_or}
 use Rattle.std.specs.Cmp.Lexicographic.{pointwise, slice_cmp}
 use Rattle.std.specs.Ordering.{nat_cmp}
 use Rattle.std.specs.declared.cmp.Ordering.TheVariants.{Less, Greater}
 use Rattle.dt_model.specs.Contents.{Contents}
+use Rattle.dt_model.specs.Pairs.{total_at}
 
 -- coordinates, and the number there
 abbrev pub Cells : Type 0
 Cells = List (List ℕ × ℕ)
 
--- the number at the first cell with these coordinates, or 0 where there is none
-abbrev pub number_in : Cells → List ℕ → ℕ
-number_in [] c = 0
-number_in (p ∷ ps) c = if pointwise nat_eq p.0 c then p.1 else number_in ps c
-
--- the coordinates of the cell at a place
+-- the coordinates of the cell at an index
 abbrev pub coords_at : Cells → ℕ → List ℕ
 coords_at ps i = let p = slice_index_or ps i ([], 0) in p.0
 
--- each cell's coordinates come before those of the cells behind it, compared from the first mode on
-abbrev pub IsAscending : Cells → Type 0
-IsAscending ps = (i j : ℕ) → i < j → j < length ps → slice_cmp nat_cmp (coords_at ps i) (coords_at ps j) ≡ Less
-
--- the cell at place i has these coordinates
+-- the cell at index i has these coordinates
 pub record IsAt (ps : Cells) (c : List ℕ) (i : ℕ) : Type 0 where
   pub there : i < length ps
   pub same : coords_at ps i ≡ c
 
--- a cell with these coordinates would go to place i
+-- a cell with these coordinates would go to index i
 pub record IsGapFor (ps : Cells) (c : List ℕ) (i : ℕ) : Type 0 where
   pub within : i ≤ length ps
   pub before : (j : ℕ) → j < i → slice_cmp nat_cmp (coords_at ps j) c ≡ Less
@@ -35,7 +27,11 @@ pub record IsGapFor (ps : Cells) (c : List ℕ) (i : ℕ) : Type 0 where
 
 -- the number v is at c, and every other number is as before
 abbrev pub Puts : Cells → Cells → List ℕ → ℕ → Type 0
-Puts old new c v = (d : List ℕ) → number_in new d ≡ (if pointwise nat_eq c d then v else number_in old d)
+Puts old new c v = (d : List ℕ) → total_at new d ≡ (if pointwise nat_eq c d then v else total_at old d)
+
+-- the cells whose number isn't 0
+abbrev pub without_zeros : Cells → Cells
+without_zeros ps = filter (λ p. not (p.1 == 0)) ps
 
 -- the cells of tensor t among those of all tensors
 abbrev pub cells_of : List Cells → ℕ → Cells
@@ -43,4 +39,4 @@ cells_of tensors t = slice_index_or tensors t []
 
 -- the contents that the cells of all tensors stand for
 abbrev pub contents_of : List Cells → Contents
-contents_of tensors t c = number_in (cells_of tensors t) c
+contents_of tensors t c = total_at (cells_of tensors t) c

@@ -8,6 +8,7 @@ use Rattle.dt_model.specs.declared.replies.World.{World}
 use Rattle.dt_model.specs.Contents.{Contents}
 use Rattle.dt_model.specs.Latches.{latch_of_cell}
 use Rattle.dt_model.specs.Runs.{call_of}
+use Rattle.dt_model.specs.Functions.{with_value}
 use Rattle.commit_core.specs.declared.events.Event.{Event}
 use Rattle.commit_core.specs.declared.events.Event.TheVariants.{Take, Commit, Give, Quit}
 use Rattle.commit_core.specs.declared.events.Position.{Position}
@@ -27,12 +28,12 @@ abbrev pub position_after : World → ℕ → ℕ → Position
 position_after w s n = record { number = next_after w s n; committed = false }
 
 -- the machine's opening, where each session is at its first accepted call
-abbrev pub opened : World → Progress
-opened w = record { machine = opening w; position = λ s. position_after w s 0; lost = []; replies = [] }
+abbrev pub initial : World → Progress
+initial w = record { machine = opening w; position = λ s. position_after w s 0; lost = []; replies = [] }
 
 -- the current call of session s, if it has one
-abbrev pub current : World → Progress → ℕ → Option Call
-current w p s = call_of w s (p.position s).number
+abbrev pub current_call : World → Progress → ℕ → Option Call
+current_call w p s = call_of w s (p.position s).number
 
 -- ---- what is possible
 
@@ -47,7 +48,8 @@ holds_below d holder s call n = all_under (λ k. not (commit_needs d call k) || 
 
 -- before the commit, the least needed latch that the session doesn't hold, where it is free
 abbrev pub can_take : Decls → (ℕ → ℕ) → Position → ℕ → ℕ → Call → Bool
-can_take d holder position s l call = not position.committed && nat_le l (journal_latch d) && commit_needs d call l && holder l == 0 && holds_below d holder s call l
+can_take d holder position s l call = not position.committed && nat_le l (journal_latch d) && commit_needs d call l && holder l == 0
+    && holds_below d holder s call l
 
 -- where all needed latches and the journal's are held
 abbrev pub can_commit : Decls → (ℕ → ℕ) → Position → ℕ → Call → Bool
@@ -58,12 +60,12 @@ abbrev pub can_give : (ℕ → ℕ) → Position → ℕ → ℕ → Bool
 can_give holder position s l = position.committed && holder l == s
 
 -- whether the event is possible for its session, whose current call this is
-abbrev pub possible_by : Decls → (ℕ → ℕ) → (ℕ → Position) → Event → Option Call → Bool
-possible_by d holder position e None = false
-possible_by d holder position (Take s l) (Some call) = can_take d holder (position s) s l call
-possible_by d holder position (Commit s) (Some call) = can_commit d holder (position s) s call
-possible_by d holder position (Give s l) (Some call) = can_give holder (position s) s l
-possible_by d holder position (Quit s) (Some call) = not (position s).committed
+abbrev pub is_possible_for : Decls → (ℕ → ℕ) → (ℕ → Position) → Event → Option Call → Bool
+is_possible_for d holder position e None = false
+is_possible_for d holder position (Take s l) (Some call) = can_take d holder (position s) s l call
+is_possible_for d holder position (Commit s) (Some call) = can_commit d holder (position s) s call
+is_possible_for d holder position (Give s l) (Some call) = can_give holder (position s) s l
+is_possible_for d holder position (Quit s) (Some call) = not (position s).committed
 
 -- the session whose event it is
 abbrev pub session_in : Event → ℕ
@@ -74,13 +76,9 @@ session_in (Quit s) = s
 
 -- whether the event may happen now: its session must have a current call
 abbrev pub is_possible : World → Progress → Event → Bool
-is_possible w p e = possible_by w.decls p.machine.holder p.position e (current w p (session_in e))
+is_possible w p e = is_possible_for w.decls p.machine.holder p.position e (current_call w p (session_in e))
 
 -- ---- what happens
-
--- session s at a new place, and all others where they were
-abbrev pub with_position : (ℕ → Position) → ℕ → Position → ℕ → Position
-with_position f s x = λ k. if k == s then x else f k
 
 -- session s holds nothing, and all other latches have their holders
 abbrev pub without_session : (ℕ → ℕ) → ℕ → ℕ → ℕ
@@ -91,10 +89,10 @@ abbrev pub holds_none : Decls → (ℕ → ℕ) → ℕ → Bool
 holds_none d holder s = all_under (λ k. not (holder k == s)) (journal_latch d + 1)
 
 -- what a get reads in the content of its latch
-abbrev pub read_by : Decls → (ℕ → Contents) → Call → Option ℕ
-read_by d content (Get cell) = Some (content (latch_of_cell d cell) cell.tensor cell.at)
-read_by d content (Batch updates) = None
-read_by d content (Query stmt) = None
+abbrev pub read_from_latches : Decls → (ℕ → Contents) → Call → Option ℕ
+read_from_latches d content (Get cell) = Some (content (latch_of_cell d cell) cell.tensor cell.at)
+read_from_latches d content (Batch updates) = None
+read_from_latches d content (Query stmt) = None
 
 -- the turn of session s's current call
 abbrev pub turn_now : Progress → ℕ → Turn
@@ -109,16 +107,16 @@ abbrev pub after_commit : Decls → Progress → ℕ → Option Call → Progres
 after_commit d p s None = p
 after_commit d p s (Some call) = record {
   machine = committed d p.machine (record { turn = turn_now p s; call = call });
-  position = with_position p.position s (record { number = (p.position s).number; committed = true });
+  position = with_value p.position s (record { number = (p.position s).number; committed = true });
   lost = p.lost;
-  replies = p.replies ++ read_by d p.machine.content call ∷ [];
+  replies = p.replies ++ read_from_latches d p.machine.content call ∷ [];
 }
 
 -- latch l is given back, and with the last give the session goes on to its next accepted call
 abbrev pub after_give : World → Progress → ℕ → ℕ → Progress
 after_give w p s l = record {
   machine = given p.machine l;
-  position = if holds_none w.decls (given p.machine l).holder s then with_position p.position s (position_after w s (p.position s).number) else p.position;
+  position = if holds_none w.decls (given p.machine l).holder s then with_value p.position s (position_after w s (p.position s).number) else p.position;
   lost = p.lost;
   replies = p.replies;
 }
@@ -127,22 +125,22 @@ after_give w p s l = record {
 abbrev pub after_quit : World → Progress → ℕ → Progress
 after_quit w p s = record {
   machine = record { holder = without_session p.machine.holder s; content = p.machine.content; history = p.machine.history };
-  position = with_position p.position s (position_after w s (p.position s).number);
+  position = with_value p.position s (position_after w s (p.position s).number);
   lost = p.lost ++ turn_now p s ∷ [];
   replies = p.replies;
 }
 
 -- what an event makes of the progress where it is possible
-abbrev pub after : World → Progress → Event → Progress
-after w p (Take s l) = after_take p s l
-after w p (Commit s) = after_commit w.decls p s (current w p s)
-after w p (Give s l) = after_give w p s l
-after w p (Quit s) = after_quit w p s
+abbrev pub after_event : World → Progress → Event → Progress
+after_event w p (Take s l) = after_take p s l
+after_event w p (Commit s) = after_commit w.decls p s (current_call w p s)
+after_event w p (Give s l) = after_give w p s l
+after_event w p (Quit s) = after_quit w p s
 
 -- the event, if it is possible; else nothing
-abbrev pub happens : World → Progress → Event → Progress
-happens w p e = if is_possible w p e then after w p e else p
+abbrev pub after_if_possible : World → Progress → Event → Progress
+after_if_possible w p e = if is_possible w p e then after_event w p e else p
 
 -- from the opening all possible events in their turn
 abbrev pub run_of : World → List Event → Progress
-run_of w events = fold (happens w) (opened w) events
+run_of w events = fold (after_if_possible w) (initial w) events

@@ -1,11 +1,11 @@
 pub mod Cells
-pub mod Roomy
+pub mod CellListState
+pub mod Orders
 pub mod Machine
-pub mod Valid
+pub mod Calls
 pub mod Turns
 pub mod Events
 pub mod Steps
 pub mod State
 pub mod Sound
-pub mod Kept
-pub mod Whole
+pub mod Invariant

@@ -8,7 +8,8 @@ use Rattle.dt_model.specs.Contents.{Contents}
 use Rattle.dt_model.specs.Tensors.{latch_count}
 use Rattle.dt_model.specs.Latches.{needs}
 use Rattle.dt_model.specs.Verdicts.{call_is_valid}
-use Rattle.dt_model.specs.Runs.{base_of, after_call, cut}
+use Rattle.dt_model.specs.Runs.{base_of, after_call, restricted_to}
+use Rattle.dt_model.specs.Functions.{with_value}
 
 -- the session that holds each latch, 0 where nobody does; the content of each latch; the entries in order
 pub record Machine : Type 0 where
@@ -18,7 +19,7 @@ pub record Machine : Type 0 where
 
 -- all latches free, each with its cells of the base, and no entry
 abbrev pub opening : World → Machine
-opening w = record { holder = λ l. 0; content = λ l. cut w.decls (base_of w) l; history = [] }
+opening w = record { holder = λ l. 0; content = λ l. restricted_to w.decls (base_of w) l; history = [] }
 
 -- the journal's latch, which comes after all others
 abbrev pub journal_latch : Decls → ℕ
@@ -27,10 +28,6 @@ journal_latch d = latch_count d
 -- whether a commit of the call needs a latch: the call's own, and the journal's
 abbrev pub commit_needs : Decls → Call → ℕ → Bool
 commit_needs d call l = needs d call l || l == journal_latch d
-
--- latch l held by s, and all others as before
-abbrev pub with_holder : (ℕ → ℕ) → ℕ → ℕ → ℕ → ℕ
-with_holder f l s = λ k. if k == l then s else f k
 
 -- the latch is free, and is above each that the session holds
 pub record CanTake (d : Decls) (m : Machine) (s l : ℕ) : Type 0 where
@@ -41,7 +38,7 @@ pub record CanTake (d : Decls) (m : Machine) (s l : ℕ) : Type 0 where
 
 -- session s holds latch l, and all else is as before
 abbrev pub taken : Machine → ℕ → ℕ → Machine
-taken m s l = record { holder = with_holder m.holder l s; content = m.content; history = m.history }
+taken m s l = record { holder = with_value m.holder l s; content = m.content; history = m.history }
 
 -- the call is valid, its session holds all that the commit needs, and its number is above each of that session
 pub record CanCommit (d : Decls) (m : Machine) (e : Entry) : Type 0 where
@@ -52,7 +49,7 @@ pub record CanCommit (d : Decls) (m : Machine) (e : Entry) : Type 0 where
 
 -- the content of a latch after a call: the call's updates of the latch's cells, where it needs the latch
 abbrev pub content_after : Decls → Call → ℕ → Contents → Contents
-content_after d call l m = if needs d call l then cut d (after_call m call) l else m
+content_after d call l m = if needs d call l then restricted_to d (after_call m call) l else m
 
 -- the entry comes last, and the contents are those after its call
 abbrev pub committed : Decls → Machine → Entry → Machine
@@ -65,7 +62,7 @@ pub record CanGive (m : Machine) (s l : ℕ) : Type 0 where
 
 -- latch l is free, and all else is as before
 abbrev pub given : Machine → ℕ → Machine
-given m l = record { holder = with_holder m.holder l 0; content = m.content; history = m.history }
+given m l = record { holder = with_value m.holder l 0; content = m.content; history = m.history }
 
 -- what is reached from the opening by takes, commits and gives
 pub data Reached (w : World) : Machine → Type 0 where

@@ -4,7 +4,7 @@ use Rattle.std.specs.List.{slice_index_or}
 use Rattle.dt_model.specs.declared.calls.Turn.{Turn}
 use Rattle.dt_model.specs.declared.calls.Entry.{Entry}
 use Rattle.dt_model.specs.declared.declared_tensors.Decls.{Decls}
-use Rattle.dt_model.specs.Runs.{cut}
+use Rattle.dt_model.specs.Runs.{restricted_to}
 use Rattle.dt_model.specs.declared.replies.World.{World}
 use Rattle.dt_model.specs.Contents.{Contents}
 use Rattle.commit_core.specs.declared.events.Position.{Position}
@@ -25,7 +25,7 @@ pub record CoreState : Type 0 where
 
 -- the content of latch l: what the cells of all tensors say of the cells of that latch
 abbrev pub content_in : Decls → List Cells → ℕ → Contents
-content_in d tensors l = cut d (contents_of tensors) l
+content_in d tensors l = restricted_to d (contents_of tensors) l
 
 -- a session that has no call
 abbrev pub no_position : Position

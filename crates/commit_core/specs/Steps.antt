@@ -6,7 +6,7 @@ use Rattle.dt_model.specs.declared.replies.World.{World}
 use Rattle.commit_core.specs.declared.events.Event.{Event}
 use Rattle.commit_core.specs.declared.events.Event.TheVariants.{Take, Commit, Give, Quit}
 use Rattle.commit_core.specs.Machine.{Machine, CanTake, taken, CanCommit, committed, CanGive, given, Gives}
-use Rattle.commit_core.specs.Events.{Progress, current, turn_now}
+use Rattle.commit_core.specs.Events.{Progress, current_call, turn_now}
 
 -- the entry of session s's current call
 abbrev pub entry_now : Progress → ℕ → Call → Entry
@@ -16,7 +16,8 @@ entry_now p s call = record { turn = turn_now p s; call = call }
 -- gives until the session holds nothing
 abbrev pub IsStep : World → Progress → Event → Machine → Type 0
 IsStep w p (Take s l) new = CanTake w.decls p.machine s l × (new ≡ taken p.machine s l)
-IsStep w p (Commit s) new = (call : Call) × (current w p s ≡ Some call) × CanCommit w.decls p.machine (entry_now p s call) × (new ≡ committed w.decls p.machine (entry_now p s call))
+IsStep w p (Commit s) new = (call : Call) × (current_call w p s ≡ Some call) × CanCommit w.decls p.machine (entry_now p s call)
+    × (new ≡ committed w.decls p.machine (entry_now p s call))
 IsStep w p (Give s l) new = CanGive p.machine s l × (new ≡ given p.machine l)
 IsStep w p (Quit s) new = Gives s p.machine new × ((l : ℕ) → new.holder l ≢ s)
 

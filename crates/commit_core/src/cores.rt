@@ -1,20 +1,22 @@
+//! The core: the sessions of a World over its latches, one event at a time.
+
 ghost use Rattle.std.specs.Prelude.{◌≡◌, ◌↔◌, true, false, Err, IfOk, OnOk, OnErr};
 ghost use Rattle.dt_model.specs.Worlds.{IsValid};
 ghost use Rattle.commit_core.specs.declared.events.StepFault.TheVariants.{NotPossible};
 ghost use Rattle.commit_core.specs.declared.events.Event.TheVariants.{Take, Commit, Give, Quit};
-ghost use Rattle.commit_core.specs.Events.{opened, current, is_possible, after, after_take, after_commit, after_give, after_quit, run_of};
+ghost use Rattle.commit_core.specs.Events.{initial, current_call, is_possible, after_event, after_take, after_commit, after_give, after_quit, run_of};
 ghost use Rattle.commit_core.specs.State.{progress_of, reply_in};
 ghost use Rattle.commit_core.specs.Turns.{is_lost};
 ghost use Rattle.commit_core.specs.Steps.{TakesMemory, IsStep};
 ghost use Rattle.commit_core.specs.Sound.{IsSound};
-ghost use Rattle.commit_core.specs.Kept.{IsKept};
+ghost use Rattle.commit_core.specs.Invariant.{IsStepInvariant};
 
 use crate::cells::CellList;
-use crate::entering::{enter, release};
+use crate::committing::{commit_call, release};
 use crate::events::{Event, Position, StepFault};
 use crate::opening::{all_free, first_positions, lines_in, position_after};
 use crate::possible::{holder_of, holds_none, is_possible, position_of};
-use crate::tensors::loaded;
+use crate::tensors::load_base;
 use crate::turns::{call_of, is_lost};
 use dt_model::{Journal, NoMemory, Turn, World, latch_count};
 use std::alloc::Global;
@@ -40,9 +42,9 @@ impl<'w> Model for Core<'w> {
     ghost use Rattle.dt_model.specs.contracts.replies.World as given;
     ghost use Rattle.dt_model.specs.contracts.calls.Entry as entered;
     ghost use Rattle.commit_core.specs.contracts.events.Position as positioned;
-    ghost use Rattle.commit_core.specs.Roomy.{all_cells};
+    ghost use Rattle.commit_core.specs.CellListState.{all_cells, all_orders};
     ghost use Rattle.commit_core.specs.State.{CoreState};
-    ghost use Rattle.commit_core.specs.Whole.{IsWhole};
+    ghost use Rattle.commit_core.specs.Invariant.{IsInvariant};
 
     ghost Value = { CoreState };
 
@@ -50,19 +52,19 @@ impl<'w> Model for Core<'w> {
 
     ghost view = { λ c. record { world = c.world.now; holders = c.holders.items; positions = c.positions.items; tensors = all_cells c.tensors.items; entries = c.journal.entries; replies = c.replies.items; lost = c.lost.items } };
 
-    ghost invariant = { λ c. IsWhole (record { world = c.world.now; holders = c.holders.items; positions = c.positions.items; tensors = all_cells c.tensors.items; entries = c.journal.entries; replies = c.replies.items; lost = c.lost.items }) c.journal.spare };
+    ghost invariant = { λ c. IsInvariant (record { world = c.world.now; holders = c.holders.items; positions = c.positions.items; tensors = all_cells c.tensors.items; entries = c.journal.entries; replies = c.replies.items; lost = c.lost.items }) c.journal.spare (all_orders c.tensors.items) };
 }
 
 impl<'w> Core<'w> {
     /// The opening: every latch free, each session at its first accepted call, and no entry. It takes
-    /// the journal's room, an entry for each line of the scripts.
+    /// the journal's room, an entry for each line of the scripts. It may run out of memory.
     pub fn open(alloc: Global, world: &'w World) -> Result<Core<'w>, NoMemory>
         requires valid { IsValid world.now }
         ensures world { IfOk result (λ c. c.world ≡ world.now) }
-        ensures value { IfOk result (λ c. progress_of c ≡ opened world.now) }
+        ensures value { IfOk result (λ c. progress_of c ≡ initial world.now) }
         ensures sound { IfOk result (λ c. IsSound world.now (progress_of c)) }
     {
-        let tensors = loaded(alloc, world.base.as_slice())?;
+        let tensors = load_base(alloc, world)?;
         let holders = all_free(alloc, latch_count(&world.decls) + 1)?;
         let positions = first_positions(alloc, world)?;
         let journal = Journal::with_room(alloc, lines_in(world))?;
@@ -82,7 +84,7 @@ impl<'w> Core<'w> {
     /// for each latch whether one of its tensors has it.
     pub fn possible(&self, event: Event) -> bool
         ensures value { result ≡ is_possible self.now.world (progress_of self.now) event }
-        ensures kept { IsKept self.now.world (progress_of self.now) }
+        ensures kept { IsStepInvariant self.now.world (progress_of self.now) }
     {
         is_possible(
             self.world,
@@ -121,6 +123,7 @@ impl<'w> Core<'w> {
         is_lost(self.lost.as_slice(), turn)
     }
 
+    /// A possible take.
     fn take(&mut self, session: u32, latch: u32)
         requires possible { is_possible self.old.world (progress_of self.old) (Take session latch) ≡ true }
         ensures value { progress_of self.new ≡ after_take (progress_of self.old) session latch }
@@ -129,10 +132,11 @@ impl<'w> Core<'w> {
         self.holders[latch as usize] = session;
     }
 
+    /// A possible commit. Where it runs out of memory all is as before.
     fn commit(&mut self, session: u32) -> Result<(), NoMemory>
         requires possible { is_possible self.old.world (progress_of self.old) (Commit session) ≡ true }
         ensures ok { OnOk result (progress_of self.new
-            ≡ after_commit self.old.world.decls (progress_of self.old) session (current self.old.world (progress_of self.old) session)) }
+            ≡ after_commit self.old.world.decls (progress_of self.old) session (current_call self.old.world (progress_of self.old) session)) }
         ensures world { self.new.world ≡ self.old.world }
         ensures err { OnErr result (self.new ≡ self.old) }
     {
@@ -145,7 +149,7 @@ impl<'w> Core<'w> {
                     session,
                     number: position.number,
                 };
-                enter(
+                commit_call(
                     self.alloc,
                     turn,
                     call,
@@ -162,6 +166,7 @@ impl<'w> Core<'w> {
         }
     }
 
+    /// A possible give. With its last latch the session goes on to its next call.
     fn give(&mut self, session: u32, latch: u32)
         requires possible { is_possible self.old.world (progress_of self.old) (Give session latch) ≡ true }
         ensures value { progress_of self.new ≡ after_give self.old.world (progress_of self.old) session latch }
@@ -174,6 +179,7 @@ impl<'w> Core<'w> {
         }
     }
 
+    /// A possible quit. Where it runs out of memory all is as before.
     fn quit(&mut self, session: u32) -> Result<(), NoMemory>
         requires possible { is_possible self.old.world (progress_of self.old) (Quit session) ≡ true }
         ensures ok { OnOk result (progress_of self.new ≡ after_quit self.old.world (progress_of self.old) session) }
@@ -185,26 +191,18 @@ impl<'w> Core<'w> {
             session,
             number: position.number,
         };
-        match self.lost.push(turn) {
-            Err(_) => Err(NoMemory),
-            Ok(()) => {
-                release(&mut self.holders, session);
-                self.positions[session as usize] = position_after(
-                    self.world,
-                    session,
-                    position.number,
-                );
-                Ok(())
-            }
-        }
+        self.lost.push(turn)?;
+        release(&mut self.holders, session);
+        self.positions[session as usize] = position_after(self.world, session, position.number);
+        Ok(())
     }
 
-    /// Makes an event happen. NotPossible comes exactly where it isn't possible, and NoMemory only where
-    /// a commit or a quit was refused an allocation. After either fault all is as before.
+    /// Makes an event happen. NotPossible comes exactly where it isn't possible. Only a commit or a quit
+    /// may run out of memory. After either fault all is as before.
     pub fn step(&mut self, event: Event) -> Result<(), StepFault>
         ensures possible { OnOk result (is_possible self.old.world (progress_of self.old) event ≡ true) }
         ensures not_possible { (result ≡ Err NotPossible) ↔ (is_possible self.old.world (progress_of self.old) event ≡ false) }
-        ensures ok { OnOk result (progress_of self.new ≡ after self.old.world (progress_of self.old) event) }
+        ensures ok { OnOk result (progress_of self.new ≡ after_event self.old.world (progress_of self.old) event) }
         ensures no_memory { (result ≡ Err StepFault.NoMemory) → TakesMemory event }
         ensures machine { OnOk result (IsStep self.old.world (progress_of self.old) event (progress_of self.new).machine) }
         ensures sound { IsSound self.new.world (progress_of self.new) }
@@ -235,6 +233,7 @@ impl<'w> Core<'w> {
     }
 
     /// From the opening every possible event in its turn; events that aren't possible are passed over.
+    /// It may run out of memory at the opening, a commit or a quit.
     pub fn run(alloc: Global, world: &'w World, events: &[Event]) -> Result<Core<'w>, NoMemory>
         requires valid { IsValid world.now }
         ensures world { IfOk result (λ c. c.world ≡ world.now) }

@@ -1,3 +1,5 @@
+//! Events, why a step is refused, and positions of sessions.
+
 /// What may happen next. Sessions are counted from 1, latches from 0.
 #[derive(Clone, Copy, Debug, PartialEq, Eq)]
 pub enum Event {
@@ -16,7 +18,7 @@ pub enum Event {
 pub enum StepFault {
     /// The event isn't possible now.
     NotPossible,
-    /// An allocation was refused.
+    /// Out of memory, at a commit or a quit.
     NoMemory,
 }
 

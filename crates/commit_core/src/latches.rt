@@ -1,3 +1,5 @@
+//! Which latches a call needs.
+
 ghost use Rattle.std.specs.Prelude.{◌≡◌, ◌==◌, true, IsTrue};
 ghost use Rattle.std.specs.List.{list_any};
 ghost use Rattle.std.specs.Cmp.Lexicographic.{pointwise};
@@ -8,9 +10,9 @@ ghost use Rattle.dt_model.specs.Verdicts.{call_is_valid, cell_is_valid, update_c
 ghost use Rattle.dt_model.specs.Worlds.{decls_are_valid};
 ghost use Rattle.dt_model.specs.declared.calls.Update.{Update};
 ghost use Rattle.commit_core.specs.Machine.{commit_needs, journal_latch};
-ghost use Rattle.commit_core.specs.Valid.{updates_are_valid};
+ghost use Rattle.commit_core.specs.Calls.{updates_are_valid};
 
-use dt_model::{Call, Cell, Decls, Expr, Name, Update, latch_count, latch_of, latches_in};
+use dt_model::{Call, Cell, Decls, Expr, Name, Update, latch_count, latch_of, total_latches};
 
 /// The cell that an update changes.
 pub fn cell_of(update: &Update) -> &Cell
@@ -22,6 +24,7 @@ pub fn cell_of(update: &Update) -> &Cell
     }
 }
 
+/// Whether one of the updates changes a cell of a latch.
 fn updates_need(decls: &Decls, updates: &[Update], latch: u32) -> bool
     requires decls { IsTrue (decls_are_valid decls.now) }
     requires cells { updates_are_valid decls.now updates.now ≡ true }
@@ -35,6 +38,7 @@ fn updates_need(decls: &Decls, updates: &[Update], latch: u32) -> bool
     false
 }
 
+/// The number of the tensor with this name.
 fn place_of(decls: &Decls, name: &Name) -> Option<usize>
     ensures value { result ≡ tensor_named decls.now name.now }
 {
@@ -45,6 +49,7 @@ fn place_of(decls: &Decls, name: &Name) -> Option<usize>
         .position(|tensor| tensor.name.bytes() == name.bytes())
 }
 
+/// Whether the tensor with this name has a latch.
 fn tensor_has(decls: &Decls, name: &Name, latch: u32) -> bool
     requires decls { IsTrue (decls_are_valid decls.now) }
     ensures value { result ≡ is_latch_of decls.now latch (tensor_named decls.now name.now) }
@@ -53,7 +58,7 @@ fn tensor_has(decls: &Decls, name: &Name, latch: u32) -> bool
         None => false,
         Some(place) => {
             let tensors = decls.tensors.as_slice();
-            let first = latches_in(&tensors[..place]);
+            let first = total_latches(&tensors[..place]);
             first <= latch && latch < first + tensors[place].latches
         }
     }
@@ -89,6 +94,7 @@ pub fn commit_needs(decls: &Decls, call: &Call, latch: u32) -> bool
     latch == latch_count(decls) || call_needs(decls, call, latch)
 }
 
+/// Whether a call needs a latch for its own cells.
 fn call_needs(decls: &Decls, call: &Call, latch: u32) -> bool
     requires decls { IsTrue (decls_are_valid decls.now) }
     requires call { IsTrue (call_is_valid decls.now call.now) }
@@ -97,6 +103,6 @@ fn call_needs(decls: &Decls, call: &Call, latch: u32) -> bool
     match call {
         Call::Get(cell) => latch_of(decls, cell) == latch,
         Call::Batch(updates) => updates_need(decls, updates.as_slice(), latch),
-        Call::Query(stmt) => expression_needs(decls, &stmt.right, latch),
+        Call::Query(stmt) => expression_needs(decls, &stmt.get().right, latch),
     }
 }

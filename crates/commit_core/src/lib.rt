@@ -3,7 +3,7 @@
 //! `Core::open`, `Core::step` and `Core::run` make the events of a World's sessions happen, and
 //! `Core::possible` says which may; `journal`, `holder`, `reply` and `lost` read what has come of it.
 //! `loaded`, `number_at`, `reserve_all` and `apply_all` keep each tensor's cells as a `CellList`.
-//! Clauses see a core as a `CoreState`, and a `CellList` as a `Roomy`. Read `Progress`, `is_possible`
+//! Clauses see a core as a `CoreState`, and a `CellList` as a `CellListState`. Read `Progress`, `is_possible`
 //! and `after` in `specs/Events.antt` first, `IsStep` in `specs/Steps.antt` for what an event is to the
 //! latch machine, `IsSound` in `specs/Sound.antt` for what holds after every call, and `contents_of` in
 //! `specs/Cells.antt` for what cells stand for.
@@ -12,9 +12,10 @@
 //! Not here: threads and the words of latches (`fiber_latch`), and what a query answers.
 #![tactic(auto)]
 
+mod calls;
 mod cells;
+mod committing;
 mod cores;
-mod entering;
 mod events;
 mod latches;
 mod opening;
@@ -24,7 +25,8 @@ mod tensors;
 mod tests;
 mod turns;
 
+pub use calls::make_call;
 pub use cells::CellList;
 pub use cores::Core;
 pub use events::{Event, Position, StepFault};
-pub use tensors::{apply_all, loaded, number_at, reserve_all};
+pub use tensors::load_base;

@@ -1,3 +1,5 @@
+//! A core's lists before the first event.
+
 ghost use Rattle.std.specs.Prelude.{◌≡◌, ◌+◌, ◌<◌, ℕ, IfOk, length, slice_index, sum_by};
 ghost use Rattle.dt_model.specs.Worlds.{IsValid};
 ghost use Rattle.commit_core.specs.Events.{position_after};
@@ -13,10 +15,7 @@ pub fn all_free(alloc: Global, latches: u32) -> Result<Vec<u32>, NoMemory>
     ensures len { IfOk result (λ holders. length holders.items ≡ latches) }
     ensures free { IfOk result (λ holders. (k : ℕ) → slice_index holders.items k ≡ 0) }
 {
-    match vec![in alloc; 0; latches as usize] {
-        Ok(holders) => Ok(holders),
-        Err(_) => Err(NoMemory),
-    }
+    Ok(vec![in alloc; 0; latches as usize]?)
 }
 
 /// The place of a session at its first accepted call after a line.
@@ -38,12 +37,7 @@ pub fn first_positions(alloc: Global, world: &World) -> Result<Vec<Position>, No
 {
     let mut positions = Vec::new(alloc);
     for session in 0..world.scripts.len() + 1 {
-        if positions
-            .push(position_after(world, session as u32, 0))
-            .is_err()
-        {
-            return Err(NoMemory);
-        }
+        positions.push(position_after(world, session as u32, 0))?;
     }
     Ok(positions)
 }

@@ -1,3 +1,5 @@
+//! Whether an event may happen.
+
 ghost use Rattle.std.specs.Prelude.{◌≡◌, ◌+◌, ◌==◌, ◌||◌, not, true, nat_le, IsTrue, length, slice_index};
 ghost use Rattle.std.specs.List.{list_all, list_any};
 ghost use Rattle.dt_model.specs.Latches.{needs, is_latch_of, latch_of_cell};
@@ -6,9 +8,9 @@ ghost use Rattle.dt_model.specs.Statements.{accesses};
 ghost use Rattle.dt_model.specs.Tensors.{tensor_named};
 ghost use Rattle.dt_model.specs.Verdicts.{call_is_valid, update_cell};
 ghost use Rattle.dt_model.specs.Worlds.{IsValid, decls_are_valid};
-ghost use Rattle.commit_core.specs.Events.{all_under, holds_below, can_take, can_commit, possible_by, session_in};
+ghost use Rattle.commit_core.specs.Events.{all_under, holds_below, can_take, can_commit, is_possible_for, session_in};
 ghost use Rattle.commit_core.specs.State.{position_in};
-ghost use Rattle.commit_core.specs.Valid.{updates_are_valid};
+ghost use Rattle.commit_core.specs.Calls.{updates_are_valid};
 
 use crate::events::{Event, Position};
 use crate::latches::{cell_of, commit_needs, expression_needs};
@@ -45,6 +47,7 @@ fn holds_latch(holders: &[u32], session: u32, latch: u32, end: u32) -> bool
     end <= latch || holder_of(holders, latch) == session
 }
 
+/// Whether a session holds each latch below an end that the updates need.
 fn holds_updates(decls: &Decls, holders: &[u32], session: u32, updates: &[Update], end: u32) -> bool
     requires decls { IsTrue (decls_are_valid decls.now) }
     requires cells { updates_are_valid decls.now updates.now ≡ true }
@@ -59,6 +62,7 @@ fn holds_updates(decls: &Decls, holders: &[u32], session: u32, updates: &[Update
     true
 }
 
+/// Whether a session holds each latch below an end that one of an expression's tensors has.
 fn holds_tensors(decls: &Decls, holders: &[u32], session: u32, expression: &Expr, end: u32) -> bool
     requires decls { IsTrue (decls_are_valid decls.now) }
     ensures value { result ≡ all_under (λ k. not (list_any (λ a. is_latch_of decls.now k (tensor_named decls.now a.0)) (accesses expression.now)) || slice_index holders.now k == session) end }
@@ -80,10 +84,11 @@ fn holds_own(decls: &Decls, holders: &[u32], session: u32, call: &Call, end: u32
     match call {
         Call::Get(cell) => holds_latch(holders, session, latch_of(decls, cell), end),
         Call::Batch(updates) => holds_updates(decls, holders, session, updates.as_slice(), end),
-        Call::Query(stmt) => holds_tensors(decls, holders, session, &stmt.right, end),
+        Call::Query(stmt) => holds_tensors(decls, holders, session, &stmt.get().right, end),
     }
 }
 
+/// Whether a session holds each latch below an end that a commit of the call needs.
 fn holds_below(decls: &Decls, holders: &[u32], session: u32, call: &Call, end: u32) -> bool
     requires decls { IsTrue (decls_are_valid decls.now) }
     requires call { IsTrue (call_is_valid decls.now call.now) }
@@ -105,6 +110,7 @@ pub fn holds_none(holders: &[u32], session: u32) -> bool
     true
 }
 
+/// Whether a session may take a latch for its call: the least one that it needs and doesn't hold.
 fn can_take(
     decls: &Decls,
     holders: &[u32],
@@ -124,6 +130,7 @@ fn can_take(
         && holds_below(decls, holders, session, call, latch)
 }
 
+/// Whether a session may commit its call: it holds all that the commit needs.
 fn can_commit(decls: &Decls, holders: &[u32], position: Position, session: u32, call: &Call) -> bool
     requires decls { IsTrue (decls_are_valid decls.now) }
     requires call { IsTrue (call_is_valid decls.now call.now) }
@@ -132,6 +139,7 @@ fn can_commit(decls: &Decls, holders: &[u32], position: Position, session: u32, 
     !position.committed && holds_below(decls, holders, session, call, latch_count(decls) + 1)
 }
 
+/// The session whose event it is.
 fn session_of(event: Event) -> u32
     ensures value { result ≡ session_in event }
 {
@@ -146,7 +154,7 @@ fn session_of(event: Event) -> u32
 /// Whether an event is possible.
 pub fn is_possible(world: &World, holders: &[u32], positions: &[Position], event: Event) -> bool
     requires valid { IsValid world.now }
-    ensures value { result ≡ possible_by world.now.decls (slice_index holders.now) (position_in positions.now) event
+    ensures value { result ≡ is_possible_for world.now.decls (slice_index holders.now) (position_in positions.now) event
         (call_of world.now (session_in event) (position_in positions.now (session_in event)).number) }
 {
     let session = session_of(event);

@@ -1,15 +1,33 @@
-ghost use Rattle.std.specs.Prelude.{◌≡◌, ℕ, ◌+◌, ◌<◌, ◌≤◌, length, fold, slice_index_or, All, IfOk, OnOk};
-ghost use Rattle.std.specs.List.{enumerate_from};
-ghost use Rattle.std.specs.List.Sorted.{IsPermutation};
-ghost use Rattle.dt_model.specs.Contents.{no_cells, with_cell, with_update, with_updates};
-ghost use Rattle.dt_model.specs.Runs.{with_lines};
-ghost use Rattle.dt_model.specs.Verdicts.{update_cell};
-ghost use Rattle.commit_core.specs.Cells.{contents_of};
-ghost use Rattle.commit_core.specs.Roomy.{Roomy, all_cells, HaveRoom};
+//! The cells of all tensors: loaded lines, look-ups and updates.
 
-use crate::cells::{CellList, compare};
-use dt_model::{Coords, NoMemory, Pairs, Update};
+ghost use Rattle.std.specs.Prelude.{◌≡◌, ℕ, ◌+◌, ◌<◌, ◌≤◌, length, slice_index_or, All, IfOk, OnOk};
+ghost use Rattle.dt_model.specs.Contents.{with_cell, with_update, with_updates};
+ghost use Rattle.dt_model.specs.Runs.{base_of};
+ghost use Rattle.dt_model.specs.Verdicts.{update_cell};
+ghost use Rattle.dt_model.specs.Worlds.{IsValid};
+ghost use Rattle.commit_core.specs.Cells.{contents_of};
+ghost use Rattle.commit_core.specs.CellListState.{CellListState, all_cells, all_orders, HaveRoom};
+ghost use Rattle.commit_core.specs.Orders.{orders_of, IsCellOf};
+
+use crate::cells::CellList;
+use dt_model::{Coords, NoMemory, Update, World};
 use std::alloc::Global;
+
+/// The cells of each tensor, from tensor 0 on: its loaded lines, each added to its cell.
+pub fn load_base(alloc: Global, world: &World) -> Result<Vec<CellList>, NoMemory>
+    requires valid { IsValid world.now }
+    ensures contents { IfOk result (λ tensors. contents_of (all_cells tensors.items) ≡ base_of world.now) }
+    ensures orders { IfOk result (λ tensors. all_orders tensors.items ≡ orders_of world.now.decls) }
+{
+    let mut tensors = Vec::new(alloc);
+    let decls = world.decls.tensors.as_slice();
+    let base = world.base.as_slice();
+    for (tensor, lines) in base.iter().enumerate() {
+        let list = CellList::load(alloc, decls[tensor].dims.len(), lines)?;
+        tensors.push(list)?;
+    }
+    Ok(tensors)
+}
 
 /// The number in a cell, 0 where nothing was written. Tensors are counted from 0. It takes time by the
 /// logarithm of the tensor's cells, and no memory.
@@ -20,9 +38,10 @@ pub fn number_at(tensors: &[CellList], tensor: usize, at: &Coords) -> u64
     tensors[tensor].number(at)
 }
 
-/// Takes room for so many more cells in every tensor. After NoMemory some may have it, with cells as
-/// before.
+/// Takes room for so many more cells in every tensor. Where it runs out of memory some may have it, with
+/// cells as before.
 pub fn reserve_all(tensors: &mut [CellList], more: usize) -> Result<(), NoMemory>
+    ensures orders { all_orders tensors.new ≡ all_orders tensors.old }
     ensures cells { all_cells tensors.new ≡ all_cells tensors.old }
     ensures room { OnOk result (HaveRoom more tensors.new) }
 {
@@ -32,75 +51,23 @@ pub fn reserve_all(tensors: &mut [CellList], more: usize) -> Result<(), NoMemory
     Ok(())
 }
 
-/// Takes room for one more cell in a tensor.
-fn reserve_one(tensors: &mut [CellList], tensor: usize) -> Result<(), NoMemory>
-    requires within { tensor < length tensors.old }
-    ensures cells { all_cells tensors.new ≡ all_cells tensors.old }
-    ensures room { OnOk result ((d : Roomy) → 0 < (slice_index_or tensors.new tensor d).spare) }
-{
-    tensors[tensor].reserve(1)
-}
-
 /// Puts a number into a cell, for which there is room.
 fn put(tensors: &mut [CellList], tensor: usize, at: &Coords, value: u64)
     requires within { tensor < length tensors.old }
-    requires room { (d : Roomy) → 0 < (slice_index_or tensors.old tensor d).spare }
+    requires fits { (d : CellListState) → length at.now ≡ (slice_index_or tensors.old tensor d).order }
+    requires room { (d : CellListState) → 0 < (slice_index_or tensors.old tensor d).spare }
+    ensures orders { all_orders tensors.new ≡ all_orders tensors.old }
     ensures contents { contents_of (all_cells tensors.new) ≡ with_cell (contents_of (all_cells tensors.old)) tensor at.now value }
     ensures room { (n : ℕ) → HaveRoom (n + 1) tensors.old → HaveRoom n tensors.new }
 {
     tensors[tensor].put(at, value);
 }
 
-/// The lines in ascending order of their coordinates.
-fn sorted(alloc: Global, lines: &[(Coords, u64)]) -> Result<Vec<(Coords, u64)>, NoMemory>
-    ensures permutation { IfOk result (λ sorted. IsPermutation lines.now sorted.items) }
-{
-    let mut sorted = Vec::new(alloc);
-    for (at, value) in lines {
-        if sorted.push((at.copy(), *value)).is_err() {
-            return Err(NoMemory);
-        }
-    }
-    match sorted.sort_by(|line, other| compare(&line.0, &other.0)) {
-        Ok(()) => Ok(sorted),
-        Err(_) => Err(NoMemory),
-    }
-}
-
-/// Adds each line to its cell. Where the lines ascend, each new cell goes to the end.
-fn add_lines(
-    tensors: &mut [CellList],
-    tensor: usize,
-    lines: &[(Coords, u64)],
-) -> Result<(), NoMemory>
-    requires within { tensor < length tensors.old }
-    ensures contents { OnOk result (contents_of (all_cells tensors.new) ≡ with_lines (contents_of (all_cells tensors.old)) tensor lines.now) }
-{
-    for (at, value) in lines {
-        reserve_one(tensors, tensor)?;
-        let sum = number_at(tensors, tensor, at).wrapping_add(*value);
-        put(tensors, tensor, at, sum);
-    }
-    Ok(())
-}
-
-/// Adds the loaded lines of a tensor, in any order.
-fn load(
-    alloc: Global,
-    tensors: &mut [CellList],
-    tensor: usize,
-    lines: &[(Coords, u64)],
-) -> Result<(), NoMemory>
-    requires within { tensor < length tensors.old }
-    ensures contents { OnOk result (contents_of (all_cells tensors.new) ≡ with_lines (contents_of (all_cells tensors.old)) tensor lines.now) }
-{
-    let ascending = sorted(alloc, lines)?;
-    add_lines(tensors, tensor, ascending.as_slice())
-}
-
+/// Makes one update, for which there is room.
 fn apply(tensors: &mut [CellList], update: &Update)
-    requires within { (update_cell update.now).tensor < length tensors.old }
+    requires cell { IsCellOf (all_orders tensors.old) (update_cell update.now) }
     requires room { HaveRoom 1 tensors.old }
+    ensures orders { all_orders tensors.new ≡ all_orders tensors.old }
     ensures contents { contents_of (all_cells tensors.new) ≡ with_update (contents_of (all_cells tensors.old)) update.now }
     ensures room { (n : ℕ) → HaveRoom (n + 1) tensors.old → HaveRoom n tensors.new }
 {
@@ -119,27 +86,12 @@ fn apply(tensors: &mut [CellList], update: &Update)
 /// Makes all updates in order, for which there is room. A new cell takes time by the number of cells
 /// behind it.
 pub fn apply_all(tensors: &mut [CellList], updates: &[Update])
-    requires within { All (λ u. (update_cell u).tensor < length tensors.old) updates.now }
+    requires cells { All (λ u. IsCellOf (all_orders tensors.old) (update_cell u)) updates.now }
     requires room { HaveRoom (length updates.now) tensors.old }
+    ensures orders { all_orders tensors.new ≡ all_orders tensors.old }
     ensures contents { contents_of (all_cells tensors.new) ≡ with_updates (contents_of (all_cells tensors.old)) updates.now }
 {
     for update in updates {
         apply(tensors, update);
     }
-}
-
-/// The cells of each tensor, from tensor 0 on, after its loaded lines. Each line is added to its cell.
-/// A copy of the lines is sorted first, so that no new cell moves another.
-pub fn loaded(alloc: Global, base: &[Pairs]) -> Result<Vec<CellList>, NoMemory>
-    ensures len { IfOk result (λ tensors. length tensors.items ≡ length base.now) }
-    ensures contents { IfOk result (λ tensors. contents_of (all_cells tensors.items) ≡ fold (λ m p. with_lines m p.0 p.1) no_cells (enumerate_from 0 base.now)) }
-{
-    let mut tensors = Vec::new(alloc);
-    for (tensor, lines) in base.iter().enumerate() {
-        if tensors.push(CellList::new(alloc)).is_err() {
-            return Err(NoMemory);
-        }
-        load(alloc, &mut tensors, tensor, lines.as_slice())?;
-    }
-    Ok(tensors)
 }

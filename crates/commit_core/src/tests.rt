@@ -1,8 +1,11 @@
+//! Runs of the core over small worlds, with what each must come to.
+
 ghost use Rattle.std.specs.Prelude.{◌≡◌, [], ◌∷◌, ◌++◌, IfOk};
 ghost use Rattle.dt_model.specs.declared.calls.Call.TheVariants.{Get, Batch, Query};
 ghost use Rattle.dt_model.specs.declared.calls.Update.TheVariants.{Set, Add};
 ghost use Rattle.dt_model.specs.declared.replies.Verdict.TheVariants.{Accepted};
 ghost use Rattle.dt_model.specs.declared.statements.Expr.TheVariants.{Access};
+ghost use Rattle.dt_model.specs.Flat.{flat_schema};
 ghost use Rattle.dt_model.specs.Worlds.{IsValid};
 
 use crate::cores::Core;
@@ -10,41 +13,37 @@ use crate::events::Event::{Commit, Give, Quit, Take};
 use crate::events::{Event, StepFault};
 use arrayvec::ArrayVec;
 use dt_model::{
-    Call, Cell, Coords, Decls, Expr, Listed, Name, NoMemory, Schema, Stmt, TensorDecl, Turn,
-    Update, Vars, Verdict, World,
+    Call, Cell, Coords, Decls, Expr, List, Name, NoMemory, Pairs, Schema, Stmt, TensorDecl, Turn,
+    Update, Updates, Vars, Verdict, World,
 };
 use std::alloc::Global;
 use std::process::Abort;
 use std::test::Fail;
 
-fn with_last<T: Drop>(items: Listed<T>, item: T) -> Result<Listed<T>, NoMemory>
+/// A list with one item more.
+fn with_last<T: Drop>(items: List<T>, item: T) -> Result<List<T>, NoMemory>
     ensures value { IfOk result (λ l. l ≡ items ++ item ∷ []) }
 {
     let mut items = items;
-    match items.push(item) {
-        Ok(()) => Ok(items),
-        Err(_) => Err(NoMemory),
-    }
+    items.push(item)?;
+    Ok(items)
 }
 
-fn one<T: Drop>(alloc: Global, item: T) -> Result<Listed<T>, NoMemory>
+/// A list of one item.
+fn one<T: Drop>(alloc: Global, item: T) -> Result<List<T>, NoMemory>
     ensures value { IfOk result (λ l. l ≡ item ∷ []) }
 {
-    with_last(Listed::new(alloc), item)
+    with_last(List::new(alloc), item)
 }
 
-fn two<T: Drop>(alloc: Global, first: T, second: T) -> Result<Listed<T>, NoMemory>
+/// A list of two items.
+fn two<T: Drop>(alloc: Global, first: T, second: T) -> Result<List<T>, NoMemory>
     ensures value { IfOk result (λ l. l ≡ first ∷ second ∷ []) }
 {
     with_last(one(alloc, first)?, second)
 }
 
-fn three<T: Drop>(alloc: Global, first: T, second: T, third: T) -> Result<Listed<T>, NoMemory>
-    ensures value { IfOk result (λ l. l ≡ first ∷ second ∷ third ∷ []) }
-{
-    with_last(two(alloc, first, second)?, third)
-}
-
+/// A name of one byte.
 fn named(byte: u8) -> Result<Name, NoMemory>
     ensures value { IfOk result (λ n. n ≡ byte ∷ []) }
 {
@@ -54,6 +53,7 @@ fn named(byte: u8) -> Result<Name, NoMemory>
     }
 }
 
+/// One coordinate.
 fn at(coordinate: u32) -> Coords
     ensures value { result ≡ coordinate ∷ [] }
 {
@@ -62,6 +62,7 @@ fn at(coordinate: u32) -> Coords
     coords
 }
 
+/// The cell of a vector.
 fn cell(tensor: u32, coordinate: u32) -> Cell
     ensures value { result ≡ record { tensor = tensor; at = coordinate ∷ [] } }
 {
@@ -71,18 +72,7 @@ fn cell(tensor: u32, coordinate: u32) -> Cell
     }
 }
 
-fn flat() -> Result<Schema, NoMemory>
-    ensures value { IfOk result (λ s. s ≡ record { name = 102 ∷ []; kinds = record { items = [] }; root = 102 ∷ [] }) }
-{
-    let name = named(b'f')?;
-    let root = named(b'f')?;
-    Ok(Schema {
-        name,
-        kinds: ArrayVec::new(),
-        root,
-    })
-}
-
+/// A tensor of order 1.
 fn vector(name: u8, dimension: u32, latches: u32) -> Result<TensorDecl, NoMemory>
     ensures value { IfOk result (λ t. t ≡ record { name = name ∷ []; dims = dimension ∷ []; formats = record { items = 0 ∷ [] }; latches = latches }) }
 {
@@ -97,12 +87,14 @@ fn vector(name: u8, dimension: u32, latches: u32) -> Result<TensorDecl, NoMemory
     })
 }
 
+/// An accepted get.
 fn get(tensor: u32, coordinate: u32) -> Verdict
     ensures value { result ≡ Accepted (Get (record { tensor = tensor; at = coordinate ∷ [] })) }
 {
     Verdict::Accepted(Call::Get(cell(tensor, coordinate)))
 }
 
+/// A set of a cell.
 fn set(tensor: u32, coordinate: u32, value: u64) -> Update
     ensures value { result ≡ Set (record { tensor = tensor; at = coordinate ∷ [] }) value }
 {
@@ -112,6 +104,7 @@ fn set(tensor: u32, coordinate: u32, value: u64) -> Update
     }
 }
 
+/// An add to a cell.
 fn add(tensor: u32, coordinate: u32, value: u64) -> Update
     ensures value { result ≡ Add (record { tensor = tensor; at = coordinate ∷ [] }) value }
 {
@@ -149,12 +142,12 @@ fn copy_of_b() -> Result<Stmt, NoMemory>
 fn small_world(alloc: Global) -> Result<World, NoMemory>
     ensures valid { IfOk result (λ w. IsValid w) }
 {
-    let schemas = one(alloc, flat()?)?;
+    let schemas = one(alloc, Schema::flat())?;
     let tensors = one(alloc, vector(b'v', 4, 2)?)?;
-    let base = one(alloc, Listed::new(alloc))?;
+    let base = one(alloc, Pairs::new(alloc))?;
     let setting = one(
         alloc,
-        Verdict::Accepted(Call::Batch(one(alloc, set(0, 0, 5))?)),
+        Verdict::Accepted(Call::Batch(Updates::of_one(alloc, set(0, 0, 5)))),
     )?;
     let getting = one(alloc, get(0, 0))?;
     let scripts = two(alloc, setting, getting)?;
@@ -166,23 +159,77 @@ fn small_world(alloc: Global) -> Result<World, NoMemory>
     })
 }
 
+/// The lines of a: its first cell twice.
+fn lines_of_a(alloc: Global) -> Result<Pairs, NoMemory>
+    ensures value { IfOk result (λ ps. ps ≡ (0 ∷ [], 2) ∷ (0 ∷ [], 3) ∷ []) }
+{
+    let mut lines = Pairs::new(alloc);
+    lines.push((at(0), 2))?;
+    lines.push((at(0), 3))?;
+    Ok(lines)
+}
+
+/// The line of b.
+fn lines_of_b(alloc: Global) -> Result<Pairs, NoMemory>
+    ensures value { IfOk result (λ ps. ps ≡ (2 ∷ [], 1) ∷ []) }
+{
+    let mut lines = Pairs::new(alloc);
+    lines.push((at(2), 1))?;
+    Ok(lines)
+}
+
+/// The updates of the batch.
+fn three_updates(alloc: Global) -> Result<Updates, NoMemory>
+    ensures value { IfOk result (λ us. us ≡ Set (record { tensor = 0; at = 0 ∷ [] }) 5
+        ∷ Add (record { tensor = 1; at = 2 ∷ [] }) 7 ∷ Set (record { tensor = 0; at = 3 ∷ [] }) 9 ∷ []) }
+{
+    let mut updates = Updates::of_one(alloc, set(0, 0, 5));
+    updates.push(add(1, 2, 7))?;
+    updates.push(set(0, 3, 9))?;
+    Ok(updates)
+}
+
 /// Tensor a has dimension 4 and latches 0 and 1, tensor b dimension 3 and latch 2; the journal's is 3.
-/// Session 1 makes a batch over both tensors and then gets a cell of b; session 2 queries b and then
-/// gets a cell of a.
+fn two_tensors(alloc: Global) -> Result<Decls, NoMemory>
+    ensures value { IfOk result (λ d. d ≡ record {
+      schemas = flat_schema ∷ [];
+      tensors = record { name = 97 ∷ []; dims = 4 ∷ []; formats = record { items = 0 ∷ [] }; latches = 2 }
+          ∷ record { name = 98 ∷ []; dims = 3 ∷ []; formats = record { items = 0 ∷ [] }; latches = 1 } ∷ [];
+    }) }
+{
+    let schemas = one(alloc, Schema::flat())?;
+    let tensors = two(alloc, vector(b'a', 4, 2)?, vector(b'b', 3, 1)?)?;
+    Ok(Decls { schemas, tensors })
+}
+
+/// A batch over both tensors, and then a get of a cell of b.
+fn batch_and_get(alloc: Global) -> Result<List<Verdict>, NoMemory>
+    ensures value { IfOk result (λ s. s
+        ≡ Accepted (Batch (Set (record { tensor = 0; at = 0 ∷ [] }) 5
+        ∷ Add (record { tensor = 1; at = 2 ∷ [] }) 7 ∷ Set (record { tensor = 0; at = 3 ∷ [] }) 9 ∷ []))
+        ∷ Accepted (Get (record { tensor = 1; at = 2 ∷ [] })) ∷ []) }
+{
+    let batch = Verdict::Accepted(Call::Batch(three_updates(alloc)?));
+    two(alloc, batch, get(1, 2))
+}
+
+/// A query of b, and then a get of a cell of a.
+fn query_and_get(alloc: Global) -> Result<List<Verdict>, NoMemory>
+    ensures value { IfOk result (λ s. s
+        ≡ Accepted (Query (record { name = 120 ∷ []; vars = record { items = (105 ∷ []) ∷ [] }; left = 0 ∷ []; right = Access (98 ∷ []) (0 ∷ []) }))
+        ∷ Accepted (Get (record { tensor = 0; at = 3 ∷ [] })) ∷ []) }
+{
+    let query = Verdict::Accepted(Call::query(alloc, copy_of_b()?)?);
+    two(alloc, query, get(0, 3))
+}
+
+/// Both tensors, with lines, and a session for each of the two scripts.
 fn large_world(alloc: Global) -> Result<World, NoMemory>
     ensures valid { IfOk result (λ w. IsValid w) }
 {
-    let schemas = one(alloc, flat()?)?;
-    let tensors = two(alloc, vector(b'a', 4, 2)?, vector(b'b', 3, 1)?)?;
-    let of_a = two(alloc, (at(0), 2), (at(0), 3))?;
-    let of_b = one(alloc, (at(2), 1))?;
-    let base = two(alloc, of_a, of_b)?;
-    let updates = three(alloc, set(0, 0, 5), add(1, 2, 7), set(0, 3, 9))?;
-    let first = two(alloc, Verdict::Accepted(Call::Batch(updates)), get(1, 2))?;
-    let query = Verdict::Accepted(Call::Query(copy_of_b()?));
-    let second = two(alloc, query, get(0, 3))?;
-    let scripts = two(alloc, first, second)?;
-    let decls = Decls { schemas, tensors };
+    let decls = two_tensors(alloc)?;
+    let base = two(alloc, lines_of_a(alloc)?, lines_of_b(alloc)?)?;
+    let scripts = two(alloc, batch_and_get(alloc)?, query_and_get(alloc)?)?;
     Ok(World {
         decls,
         base,
@@ -303,6 +350,7 @@ const STRANGERS: [Event; 6] = [
     Quit { session: 3 },
 ];
 
+/// A turn.
 fn turn(session: u32, number: u32) -> Turn {
     Turn { session, number }
 }
@@ -317,6 +365,7 @@ struct Row<'a> {
     lost: &'a [Turn],
 }
 
+/// Runs the events, and compares what they must come to.
 fn check_row(rt: &impl Abort, alloc: Global, world: &World, row: &Row<'_>) -> Result<(), Fail>
     requires { IsValid world.now }
 {
@@ -361,9 +410,9 @@ fn the_get_that_commits_first_reads_0(rt: HostRuntime) -> Result<(), Fail> {
 fn a_step_that_is_not_possible_says_so(rt: HostRuntime) -> Result<(), Fail> {
     let world = small_world(rt.alloc())?;
     let mut core = Core::open(rt.alloc(), &world)?;
-    assert_eq!(rt; core.step(SMALL[0]), Ok(()));
-    assert_eq!(rt; core.possible(SMALL[1]), false);
-    assert_eq!(rt; core.step(SMALL[1]), Err(StepFault::NotPossible));
+    assert_eq!(rt; core.step(take!(2, 0)), Ok(()));
+    assert_eq!(rt; core.possible(take!(1, 0)), false);
+    assert_eq!(rt; core.step(take!(1, 0)), Err(StepFault::NotPossible));
     assert_eq!(rt; core.holder(0), 2);
     Ok(())
 }

@@ -1,3 +1,5 @@
+//! Which call a session makes at a turn, and which turns quit.
+
 ghost use Rattle.std.specs.Prelude.{◌≡◌, ◌≤◌, ◌+◌, ℕ, IfSome, IsTrue};
 ghost use Rattle.std.specs.Option.{option_copied};
 ghost use Rattle.dt_model.specs.Runs.{call_of};
@@ -7,6 +9,7 @@ ghost use Rattle.commit_core.specs.Turns.{script_of, lines_in, next_after, is_lo
 
 use dt_model::{Call, Turn, Verdict, Verdicts, World};
 
+/// The script of a session, if the World has it.
 fn script_of(world: &World, session: u32) -> Option<&Verdicts>
     ensures value { option_copied result ≡ script_of world.now session }
 {
@@ -16,6 +19,7 @@ fn script_of(world: &World, session: u32) -> Option<&Verdicts>
     world.scripts.get(session as usize - 1)
 }
 
+/// The accepted call of a turn, if it has one.
 fn found_call(world: &World, session: u32, number: u32) -> Option<&Call>
     ensures value { option_copied result ≡ call_of world.now session number }
 {
@@ -38,6 +42,7 @@ pub fn call_of(world: &World, session: u32, number: u32) -> Option<&Call>
     found_call(world, session, number)
 }
 
+/// How many lines a session's script has.
 fn lines_of(world: &World, session: u32) -> u32
     requires valid { IsValid world.now }
     ensures value { result ≡ lines_in (script_of world.now session) }

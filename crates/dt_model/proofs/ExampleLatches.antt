@@ -6,10 +6,11 @@ use Rattle.dt_model.specs.declared.calls.Call.TheVariants.{Get, Query}
 use Rattle.dt_model.specs.declared.replies.World.{World}
 use Rattle.dt_model.specs.declared.statements.Expr.TheVariants.{Access}
 use Rattle.dt_model.specs.Contents.{Contents}
-use Rattle.dt_model.specs.Runs.{fold_of, cut}
+use Rattle.dt_model.specs.Runs.{contents_after, restricted_to}
 use Rattle.dt_model.specs.Tensors.{latch_of, latch_count, width_in}
-use Rattle.dt_model.specs.Latches.{latches_of}
-use Rattle.dt_model.specs.Refusals.{WrittenBatch, Whole}
+use Rattle.dt_model.specs.Latches.{needed_latches}
+use Rattle.dt_model.specs.declared.written.WrittenNumber.TheVariants.{Whole}
+use Rattle.dt_model.specs.declared.written.WrittenCall.TheVariants as written
 use Rattle.dt_model.proofs.Examples.{declared, vector, statement, set_of, add_of, world_of, entries_of}
 
 -- v has dimension 4 and 2 latches, u has dimension 3 and 1 latch
@@ -46,28 +47,31 @@ width_of_few = refl
 
 -- batch set v 1 5 ; add v 4 2 ; set u 2 9 ; add v 1 1
 abbrev four_updates : World
-four_updates = world_of two_vectors ([] ∷ [] ∷ []) (WrittenBatch (set_of (codes "v") (1 ∷ []) (Whole 5) ∷ add_of (codes "v") (4 ∷ []) (Whole 2) ∷ set_of (codes "u") (2 ∷ []) (Whole 9) ∷ add_of (codes "v") (1 ∷ []) (Whole 1) ∷ []) ∷ [])
+four_updates = world_of two_vectors ([] ∷ [] ∷ [])
+    (written.Batch (set_of (codes "v") (1 ∷ []) (Whole 5) ∷ add_of (codes "v") (4 ∷ []) (Whole 2)
+    ∷ set_of (codes "u") (2 ∷ []) (Whole 9) ∷ add_of (codes "v") (1 ∷ []) (Whole 1) ∷ []) ∷ [])
 
 -- the batch needs each latch once, in ascending order
-pub latches_of_batch : map (λ e. latches_of two_vectors e.call) (entries_of four_updates ((1, 1) ∷ [])) ≡ (0 ∷ 1 ∷ 2 ∷ []) ∷ []
+pub latches_of_batch : map (λ e. needed_latches two_vectors e.call) (entries_of four_updates ((1, 1) ∷ [])) ≡ (0 ∷ 1 ∷ 2 ∷ []) ∷ []
 latches_of_batch = refl
 
 -- get v 3 needs latch 1 alone
-pub latches_of_get : latches_of two_vectors (Get (record { tensor = 0; at = 2 ∷ [] })) ≡ 1 ∷ []
+pub latches_of_get : needed_latches two_vectors (Get (record { tensor = 0; at = 2 ∷ [] })) ≡ 1 ∷ []
 latches_of_get = refl
 
 -- a(i) = v(i) needs all latches of v
-pub latches_of_query : latches_of two_vectors (Query (statement (codes "a") (codes "i" ∷ []) (0 ∷ []) (Access (codes "v") (0 ∷ [])))) ≡ 0 ∷ 1 ∷ []
+pub latches_of_query : needed_latches two_vectors (Query (statement (codes "a") (codes "i" ∷ []) (0 ∷ []) (Access (codes "v") (0 ∷ [])))) ≡ 0 ∷ 1 ∷ []
 latches_of_query = refl
 
 -- the contents after the batch
 abbrev after_batch : Contents
-after_batch = fold_of four_updates (entries_of four_updates ((1, 1) ∷ []))
+after_batch = contents_after four_updates (entries_of four_updates ((1, 1) ∷ []))
 
 -- the numbers in the cells 1 and 4 of v and 2 of u
 abbrev written_cells : Contents → List ℕ
 written_cells m = m 0 (0 ∷ []) ∷ m 0 (3 ∷ []) ∷ m 1 (1 ∷ []) ∷ []
 
--- each latch's cut has the cells of its own fiber, and the cut of the journal's latch has none
-pub cuts_of_batch : map (λ w. written_cells (cut two_vectors after_batch w)) (0 ∷ 1 ∷ 2 ∷ 3 ∷ []) ≡ (6 ∷ 0 ∷ 0 ∷ []) ∷ (0 ∷ 2 ∷ 0 ∷ []) ∷ (0 ∷ 0 ∷ 9 ∷ []) ∷ (0 ∷ 0 ∷ 0 ∷ []) ∷ []
-cuts_of_batch = refl
+-- restricted to each latch the contents are those of its fiber, and to the journal's latch they are empty
+pub restricted_after_batch : map (λ w. written_cells (restricted_to two_vectors after_batch w)) (0 ∷ 1 ∷ 2 ∷ 3 ∷ [])
+    ≡ (6 ∷ 0 ∷ 0 ∷ []) ∷ (0 ∷ 2 ∷ 0 ∷ []) ∷ (0 ∷ 0 ∷ 9 ∷ []) ∷ (0 ∷ 0 ∷ 0 ∷ []) ∷ []
+restricted_after_batch = refl

@@ -11,7 +11,8 @@ use Rattle.dt_model.specs.declared.declared_tensors.TensorDecl.{TensorDecl}
 use Rattle.dt_model.specs.declared.statements.Stmt.{Stmt}
 use Rattle.dt_model.specs.declared.statements.Expr.TheVariants.{Access}
 use Rattle.dt_model.specs.declared.statements.Expr.TheViews.{Times}
-use Rattle.dt_model.specs.Runs.{IsOrder, Rises, call_of}
+use Rattle.dt_model.specs.declared.limits.TheConstants.{MOST_CALLS}
+use Rattle.dt_model.specs.Runs.{IsOrder, IsInScriptOrder, call_of}
 use Rattle.dt_model.specs.Verdicts.{is_small, call_is_valid}
 use Rattle.dt_model.specs.Worlds.{decls_are_valid, IsValid}
 use Rattle.dt_model.proofs.Examples.{declared, vector, statement, v_of_five, entries_of}
@@ -23,7 +24,8 @@ use Rattle.dt_model.proofs.ExampleStatements.{two_matrices, affine_tensors, prod
 -- ---- declarations
 
 -- the tensors that the worked examples name are declared within the limits
-pub worked_declarations : map decls_are_valid (v_of_five ∷ two_vectors ∷ some_tensors ∷ two_matrices ∷ affine_tensors ∷ []) ≡ true ∷ true ∷ true ∷ true ∷ true ∷ []
+pub worked_declarations : map decls_are_valid (v_of_five ∷ two_vectors ∷ some_tensors ∷ two_matrices ∷ affine_tensors ∷ [])
+    ≡ true ∷ true ∷ true ∷ true ∷ true ∷ []
 worked_declarations = refl
 
 -- a tensor of one mode in the format of this number
@@ -39,10 +41,11 @@ pub latches_of_one_tensor : map (λ n. decls_are_valid (declared (vector (codes 
 latches_of_one_tensor = refl
 
 -- a dimension of 0, and one of 2^32
-pub dimensions_out_of_range : map (λ n. decls_are_valid (declared (vector (codes "v") n 1 ∷ []))) (0 ∷ 1 ∷ 4294967295 ∷ 4294967296 ∷ []) ≡ false ∷ true ∷ true ∷ false ∷ []
+pub dimensions_out_of_range : map (λ n. decls_are_valid (declared (vector (codes "v") n 1 ∷ []))) (0 ∷ 1 ∷ 4294967295 ∷ 4294967296 ∷ [])
+    ≡ false ∷ true ∷ true ∷ false ∷ []
 dimensions_out_of_range = refl
 
--- a name that stands twice
+-- a name that is declared twice
 pub name_twice : decls_are_valid (declared (vector (codes "v") 5 1 ∷ vector (codes "v") 4 2 ∷ [])) ≡ false
 name_twice = refl
 
@@ -55,8 +58,10 @@ product_is_small = refl
 
 -- the same with k before i and j
 abbrev out_of_order : Stmt
-out_of_order = statement (codes "A") (codes "k" ∷ codes "i" ∷ codes "j" ∷ []) (1 ∷ 2 ∷ []) (Times (Access (codes "B") (1 ∷ 0 ∷ [])) (Access (codes "C") (0 ∷ 2 ∷ [])))
+out_of_order = statement (codes "A") (codes "k" ∷ codes "i" ∷ codes "j" ∷ []) (1 ∷ 2 ∷ [])
+    (Times (Access (codes "B") (1 ∷ 0 ∷ [])) (Access (codes "C") (0 ∷ 2 ∷ [])))
 
+-- it is not in order of first appearance
 pub order_of_variables_counts : is_small out_of_order ≡ false
 unfolding Rattle.dt_model.specs.declared.statements.Expr.TheBlock.hidden-the_row-Expr-0 denote.Hole.Carrier.hidden
 order_of_variables_counts = refl
@@ -88,9 +93,11 @@ two_lines_may_be_run = record { decls = refl; sessions = refl; calls = refl; siz
 abbrev the_set : Entry
 the_set = record { turn = record { session = 1; number = 1 }; call = Batch (Set (record { tensor = 0; at = 1 ∷ [] }) 7 ∷ []) }
 
+-- the second entry
 abbrev the_get : Entry
 the_get = record { turn = record { session = 1; number = 2 }; call = Get (record { tensor = 0; at = 1 ∷ [] }) }
 
+-- they are the entries of the turns (1, 1) and (1, 2)
 pub entries_of_two_lines : entries_of set_then_get ((1, 1) ∷ (1, 2) ∷ []) ≡ the_set ∷ the_get ∷ []
 entries_of_two_lines = refl
 
@@ -103,9 +110,11 @@ pub set_and_get_are_an_order : IsOrder set_then_get (the_set ∷ the_get ∷ [])
 set_and_get_are_an_order = record {
   legal = record {
     sessions = both (λ e. (1 ≤ e.turn.session) × (e.turn.session ≤ 1)) (omega arith, omega arith) (omega arith, omega arith);
-    numbers = both (λ e. (1 ≤ e.turn.number) × (e.turn.number ≤ 65536)) (omega arith, omega arith) (omega arith, omega arith);
+    numbers = both (λ e. (1 ≤ e.turn.number) × (e.turn.number ≤ MOST_CALLS)) (omega arith, omega arith) (omega arith, omega arith);
     calls = both (λ e. IsTrue (call_is_valid v_of_five e.call)) refl refl;
-    rising = AllPairs-cons Rises the_set (the_get ∷ []) (All-cons (Rises the_set) the_get [] (λ same. omega arith) (All-nil (Rises the_set))) (λ i j d l m. absurd (omega (arith, l, m)));
+    rising = AllPairs-cons IsInScriptOrder the_set (the_get ∷ [])
+        (All-cons (IsInScriptOrder the_set) the_get [] (λ same. omega arith) (All-nil (IsInScriptOrder the_set)))
+        (λ i j d l m. absurd (omega (arith, l, m)));
   };
   called = both (λ e. call_of set_then_get e.turn.session e.turn.number ≡ Some e.call) refl refl;
 }

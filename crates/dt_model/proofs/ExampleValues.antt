@@ -14,9 +14,11 @@ use Rattle.dt_model.specs.Runs.{base_of}
 use Rattle.dt_model.specs.Report.{report}
 use Rattle.dt_model.proofs.Examples.{declared, matrix, statement, v_of_five}
 
+-- cell 1 of v
 abbrev first_cell : Cell
 first_cell = record { tensor = 0; at = 0 ∷ [] }
 
+-- cell 3 of v
 abbrev third_cell : Cell
 third_cell = record { tensor = 0; at = 2 ∷ [] }
 

@@ -1,18 +1,24 @@
 -- Tensors, lines and runs that the worked examples speak of.
-use Rattle.std.proofs.Common.{ℕ, List, [], ◌∷◌, map, Some, true, false}
+use Rattle.std.proofs.Common.{ℕ, List, [], ◌∷◌, map, Some}
 use Rattle.std.specs.Prelude.{codes, ◌^◌, ◌-◌}
 use Rattle.std.specs.List.{filter_map}
-use Rattle.dt_model.specs.declared.declared_tensors.Links.TheVariants.{Flat}
-use Rattle.dt_model.specs.declared.declared_tensors.Schema.{Schema}
 use Rattle.dt_model.specs.declared.declared_tensors.TensorDecl.{TensorDecl}
 use Rattle.dt_model.specs.declared.declared_tensors.Decls.{Decls}
 use Rattle.dt_model.specs.declared.calls.Entry.{Entry}
 use Rattle.dt_model.specs.declared.replies.World.{World}
 use Rattle.dt_model.specs.declared.statements.Stmt.{Stmt}
 use Rattle.dt_model.specs.declared.statements.Expr.{Expr}
-use Rattle.dt_model.specs.Refusals.{WrittenCall, WrittenBatch, WrittenUpdate, WrittenNumber, Whole}
+use Rattle.dt_model.specs.declared.written.WrittenNumber.{WrittenNumber}
+use Rattle.dt_model.specs.declared.written.WrittenNumber.TheVariants.{Whole}
+use Rattle.dt_model.specs.declared.written.WrittenCoordinate.TheVariants.{Number}
+use Rattle.dt_model.specs.declared.written.UpdateKind.{UpdateKind}
+use Rattle.dt_model.specs.declared.written.UpdateKind.TheVariants.{Set, Add}
+use Rattle.dt_model.specs.declared.written.WrittenUpdate.{WrittenUpdate}
+use Rattle.dt_model.specs.declared.written.WrittenCall.{WrittenCall}
+use Rattle.dt_model.specs.declared.written.WrittenCall.TheVariants.{Get, Batch}
+use Rattle.dt_model.specs.Flat.{flat_schema}
 use Rattle.dt_model.specs.Verdicts.{verdict}
-use Rattle.dt_model.specs.Report.{entry_by}
+use Rattle.dt_model.specs.Report.{entry_from}
 
 -- a tensor of one mode
 abbrev pub vector : List ℕ → ℕ → ℕ → TensorDecl
@@ -22,26 +28,33 @@ vector name dim latches = record { name = name; dims = dim ∷ []; formats = rec
 abbrev pub matrix : List ℕ → ℕ → ℕ → TensorDecl
 matrix name rows columns = record { name = name; dims = rows ∷ columns ∷ []; formats = record { items = 0 ∷ 0 ∷ [] }; latches = 1 }
 
--- the schema `flat`: one node without links
-abbrev pub flat : Schema
-flat = record { name = codes "flat"; kinds = record { items = (record { name = codes "flat"; lo = 1; hi = 16; links = Flat }) ∷ [] }; root = codes "flat" }
-
 -- these tensors are declared, over the schema `flat` alone
 abbrev pub declared : List TensorDecl → Decls
-declared tensors = record { schemas = flat ∷ []; tensors = tensors }
+declared tensors = record { schemas = flat_schema ∷ []; tensors = tensors }
 
--- `set NAME COORDS VALUE` and `add NAME COORDS VALUE`
+-- an update of this kind
+abbrev update_of : UpdateKind → List ℕ → List ℕ → WrittenNumber → WrittenUpdate
+update_of kind name coordinates number = record { kind = kind; name = name; coordinates = map Number coordinates; number = number }
+
+-- `set NAME COORDINATES VALUE` as an update
 abbrev pub set_of : List ℕ → List ℕ → WrittenNumber → WrittenUpdate
-set_of name coords number = record { adds = false; name = name; coords = coords; number = number }
+set_of name coordinates number = update_of Set name coordinates number
 
+-- `add NAME COORDINATES VALUE` as an update
 abbrev pub add_of : List ℕ → List ℕ → WrittenNumber → WrittenUpdate
-add_of name coords number = record { adds = true; name = name; coords = coords; number = number }
+add_of name coordinates number = update_of Add name coordinates number
 
+-- `set NAME COORDINATES VALUE` as a line
 abbrev pub set_line : List ℕ → List ℕ → WrittenNumber → WrittenCall
-set_line name coords number = WrittenBatch (set_of name coords number ∷ [])
+set_line name coordinates number = Batch (set_of name coordinates number ∷ [])
 
+-- `add NAME COORDINATES VALUE` as a line
 abbrev pub add_line : List ℕ → List ℕ → WrittenNumber → WrittenCall
-add_line name coords number = WrittenBatch (add_of name coords number ∷ [])
+add_line name coordinates number = Batch (add_of name coordinates number ∷ [])
+
+-- `get NAME COORDINATES`
+abbrev pub get_line : List ℕ → List ℕ → WrittenCall
+get_line name coordinates = Get name (map Number coordinates)
 
 -- the number -n
 abbrev pub minus : ℕ → WrittenNumber
@@ -57,7 +70,7 @@ world_of d base lines = record { decls = d; base = base; scripts = map (verdict 
 
 -- the entries of these turns, in this order
 abbrev pub entries_of : World → List (ℕ × ℕ) → List Entry
-entries_of w turns = filter_map (λ turn. entry_by w (Some turn.0) (Some turn.1)) turns
+entries_of w turns = filter_map (λ turn. entry_from w (Some turn.0) (Some turn.1)) turns
 
 -- the tensor `v` of dimension 5 with one latch
 abbrev pub v_of_five : Decls

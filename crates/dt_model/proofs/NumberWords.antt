@@ -1,4 +1,4 @@
--- Numbers in texts: each decimal and each value is a word, other than `history`.
+-- Numbers in texts: each decimal and each value is a word, is not `history`, and reads back.
 use Rattle.std.proofs.Common.{◌≡◌, ℕ, ◌-◌, ◌/◌, ◌%◌, ◌<◌, ◌^◌, Bool, true, false, cond, not, List, [], ◌∷◌, refl, arith, Some, nat_lt, suc, zero}
 use Rattle.std.specs.Prelude.{◌==◌, codes, nat_eq}
 use Rattle.std.specs.Fmt.{decimal, digits, digits_onto, digit_glyph}
@@ -11,8 +11,9 @@ use Rattle.std.proofs.Math.Nat.{mod-lt}
 use Rattle.std.proofs.lemmas.Bool.Decides.{nat_tests}
 use Rattle.std.proofs.lemmas.Fmt.{digits_value-decimal}
 use Rattle.std.proofs.lemmas.Str.Parse.{IsNumeralModel, numerals_by_value, tells_all_ascii_digits}
+use Rattle.dt_model.specs.declared.limits.TheConstants.{MINUS}
 use Rattle.dt_model.specs.Texts.{is_word_byte, is_word, is_nonempty, value_word, number_of}
-use Rattle.dt_model.proofs.TestLemmas.{both_true, true_both}
+use Rattle.dt_model.proofs.Booleans.{both_true, true_both}
 
 glyph_is_digit : (n : ℕ) → is_ascii_digit (digit_glyph false (n % 10)) ≡ true
 glyph_is_digit n = let small : n % 10 < 10 = mod-lt n (omega arith) in of_small (n % 10) small
@@ -23,8 +24,10 @@ glyph_is_digit n = let small : n % 10 < 10 = mod-lt n (omega arith) in of_small 
 onto_digits : (k n : ℕ) (acc : List ℕ) → all_ascii_digits acc ≡ true → all_ascii_digits (digits_onto k 10 false n acc) ≡ true
 onto_digits zero n acc h = h
 onto_digits (suc k) n acc h =
-    let more : all_ascii_digits (digit_glyph false (n % 10) ∷ acc) ≡ true = true_both (is_ascii_digit (digit_glyph false (n % 10))) (all_ascii_digits acc) (glyph_is_digit n) h in
-    by_end (n / 10 == 0) (digit_glyph false (n % 10) ∷ acc) (digits_onto k 10 false (n / 10) (digit_glyph false (n % 10) ∷ acc)) more (onto_digits k (n / 10) (digit_glyph false (n % 10) ∷ acc) more)
+    let more : all_ascii_digits (digit_glyph false (n % 10) ∷ acc)
+    ≡ true = true_both (is_ascii_digit (digit_glyph false (n % 10))) (all_ascii_digits acc) (glyph_is_digit n) h in
+    by_end (n / 10 == 0) (digit_glyph false (n % 10) ∷ acc) (digits_onto k 10 false (n / 10) (digit_glyph false (n % 10) ∷ acc)) more
+    (onto_digits k (n / 10) (digit_glyph false (n % 10) ∷ acc) more)
   where
     by_end : (b : Bool) (xs ys : List ℕ) → all_ascii_digits xs ≡ true → all_ascii_digits ys ≡ true → all_ascii_digits (cond b xs ys) ≡ true
     by_end true xs ys p q = p
@@ -32,7 +35,9 @@ onto_digits (suc k) n acc h =
 
 onto_nonempty : (k n : ℕ) (acc : List ℕ) → is_nonempty acc ≡ true → is_nonempty (digits_onto k 10 false n acc) ≡ true
 onto_nonempty zero n acc h = h
-onto_nonempty (suc k) n acc h = by_end (n / 10 == 0) (digit_glyph false (n % 10) ∷ acc) (digits_onto k 10 false (n / 10) (digit_glyph false (n % 10) ∷ acc)) refl (onto_nonempty k (n / 10) (digit_glyph false (n % 10) ∷ acc) refl)
+onto_nonempty (suc k) n acc h =
+    by_end (n / 10 == 0) (digit_glyph false (n % 10) ∷ acc) (digits_onto k 10 false (n / 10) (digit_glyph false (n % 10) ∷ acc)) refl
+    (onto_nonempty k (n / 10) (digit_glyph false (n % 10) ∷ acc) refl)
   where
     by_end : (b : Bool) (xs ys : List ℕ) → is_nonempty xs ≡ true → is_nonempty ys ≡ true → is_nonempty (cond b xs ys) ≡ true
     by_end true xs ys p q = p
@@ -46,7 +51,9 @@ all_ascii_digits-decimal n = onto_digits 64 n [] refl
 -- the decimal of every number has a digit
 pub is_nonempty-decimal : (n : ℕ) → is_nonempty (decimal n) ≡ true
 unfolding digits
-is_nonempty-decimal n = by_end (n / 10 == 0) (digit_glyph false (n % 10) ∷ []) (digits_onto 63 10 false (n / 10) (digit_glyph false (n % 10) ∷ [])) refl (onto_nonempty 63 (n / 10) (digit_glyph false (n % 10) ∷ []) refl)
+is_nonempty-decimal n =
+    by_end (n / 10 == 0) (digit_glyph false (n % 10) ∷ []) (digits_onto 63 10 false (n / 10) (digit_glyph false (n % 10) ∷ [])) refl
+    (onto_nonempty 63 (n / 10) (digit_glyph false (n % 10) ∷ []) refl)
   where
     by_end : (b : Bool) (xs ys : List ℕ) → is_nonempty xs ≡ true → is_nonempty ys ≡ true → is_nonempty (cond b xs ys) ≡ true
     by_end true xs ys p q = p
@@ -71,34 +78,35 @@ is_word-decimal n = numeral_is_word (decimal n) (is_nonempty-decimal n) (all_asc
 
 -- a written value is a word
 pub is_word-value_word : (v : ℕ) → is_word (value_word v) ≡ true
-is_word-value_word v = by_sign (nat_lt v (2 ^ 63)) (decimal v) (decimal (2 ^ 64 - v)) (is_word-decimal v) (digits_are_word (decimal (2 ^ 64 - v)) (all_ascii_digits-decimal (2 ^ 64 - v)))
+is_word-value_word v = by_sign (nat_lt v (2 ^ 63)) (decimal v) (decimal (2 ^ 64 - v)) (is_word-decimal v)
+    (digits_are_word (decimal (2 ^ 64 - v)) (all_ascii_digits-decimal (2 ^ 64 - v)))
   where
-    by_sign : (b : Bool) (xs ys : List ℕ) → is_word xs ≡ true → list_all is_word_byte ys ≡ true → is_word (cond b xs (45 ∷ ys)) ≡ true
+    by_sign : (b : Bool) (xs ys : List ℕ) → is_word xs ≡ true → list_all is_word_byte ys ≡ true → is_word (cond b xs (MINUS ∷ ys)) ≡ true
     by_sign true xs ys p q = p
     by_sign false xs ys p q = q
 
 -- ---- no number is the word `history`
 
--- a word other than `history`
-abbrev pub is_other : List ℕ → Bool
-is_other word = not (pointwise nat_eq word (codes "history"))
+-- whether a word is not `history`
+abbrev pub is_not_history : List ℕ → Bool
+is_not_history word = not (pointwise nat_eq word (codes "history"))
 
 not_h : (d : ℕ) → is_ascii_digit d ≡ true → (d == 104) ≡ false
 not_h d h = grind (arith, nat_tests)
 
-numeral_is_other : (ds : List ℕ) → all_ascii_digits ds ≡ true → is_other ds ≡ true
-numeral_is_other [] h = refl
-numeral_is_other (d ∷ ds) h = rw (not_h d (both_true (is_ascii_digit d) (all_ascii_digits ds) h).0) refl
+numeral_is_not_history : (ds : List ℕ) → all_ascii_digits ds ≡ true → is_not_history ds ≡ true
+numeral_is_not_history [] h = refl
+numeral_is_not_history (d ∷ ds) h = rw (not_h d (both_true (is_ascii_digit d) (all_ascii_digits ds) h).0) refl
 
 -- a decimal isn't `history`
-pub is_other-decimal : (n : ℕ) → is_other (decimal n) ≡ true
-is_other-decimal n = numeral_is_other (decimal n) (all_ascii_digits-decimal n)
+pub is_not_history-decimal : (n : ℕ) → is_not_history (decimal n) ≡ true
+is_not_history-decimal n = numeral_is_not_history (decimal n) (all_ascii_digits-decimal n)
 
 -- a written value isn't `history`
-pub is_other-value_word : (v : ℕ) → is_other (value_word v) ≡ true
-is_other-value_word v = by_sign (nat_lt v (2 ^ 63)) (decimal v) (decimal (2 ^ 64 - v)) (is_other-decimal v)
+pub is_not_history-value_word : (v : ℕ) → is_not_history (value_word v) ≡ true
+is_not_history-value_word v = by_sign (nat_lt v (2 ^ 63)) (decimal v) (decimal (2 ^ 64 - v)) (is_not_history-decimal v)
   where
-    by_sign : (b : Bool) (xs ys : List ℕ) → is_other xs ≡ true → is_other (cond b xs (45 ∷ ys)) ≡ true
+    by_sign : (b : Bool) (xs ys : List ℕ) → is_not_history xs ≡ true → is_not_history (cond b xs (MINUS ∷ ys)) ≡ true
     by_sign true xs ys p = p
     by_sign false xs ys p = refl
 

@@ -15,15 +15,15 @@ use Rattle.dt_model.specs.declared.replies.Verdict.{Verdict}
 use Rattle.dt_model.specs.declared.replies.Verdict.TheVariants.{Accepted, Refused}
 use Rattle.dt_model.specs.Names.{is_name, is_name_start, is_name_byte}
 use Rattle.dt_model.specs.Texts.{is_word_byte, is_word, value_word}
-use Rattle.dt_model.specs.Runs.{reply_at, fold_of}
+use Rattle.dt_model.specs.Runs.{reply_of_turn, contents_after}
 use Rattle.dt_model.specs.Statements.{nonzeros, all_below}
 use Rattle.dt_model.specs.Tensors.{dims_of}
 use Rattle.dt_model.specs.Worlds.{IsValid, verdict_is_valid, refusal_is_named}
 use Rattle.dt_model.specs.Report.{pair_row, call_rows, line_rows, lines_rows, refusal_words, session_rows, name_in, tensor_rows}
-use Rattle.dt_model.proofs.TestLemmas.{All-rest, both_true, true_both, list_all-weaker, list_all-append}
-use Rattle.dt_model.proofs.LatchLemmas.{name_at}
-use Rattle.dt_model.proofs.NumberWords.{is_word-decimal, is_word-value_word, is_other-decimal, is_other-value_word}
-use Rattle.dt_model.proofs.Histories.{is_no_history}
+use Rattle.dt_model.proofs.Booleans.{All-rest, both_true, true_both, list_all-weaker, list_all-append}
+use Rattle.dt_model.proofs.WorldsLemmas.{name_at}
+use Rattle.dt_model.proofs.NumberWords.{is_word-decimal, is_word-value_word, is_not_history-decimal, is_not_history-value_word}
+use Rattle.dt_model.proofs.ReportHistories.{begins_no_history}
 
 -- ---- names
 
@@ -43,28 +43,28 @@ is_word-is_name (b ∷ bs) h =
 
 -- ---- rows before the history
 
--- words, of which the first isn't `history`
-abbrev pub is_good : List (List ℕ) → Bool
-is_good row = list_all is_word row && is_no_history row
+-- whether a row has words alone, and the first isn't `history`
+abbrev pub is_plain_row : List (List ℕ) → Bool
+is_plain_row row = list_all is_word row && begins_no_history row
 
-pair_good : (coords : List ℕ) (v : ℕ) → is_good (map (λ c. decimal (c + 1)) coords ++ value_word v ∷ []) ≡ true
-pair_good [] v = rw (is_word-value_word v, is_other-value_word v) refl
-pair_good (c ∷ cs) v = true_both _ (is_no_history (decimal (c + 1) ∷ [])) (words (c ∷ cs)) (is_other-decimal (c + 1))
+pair_are_plain : (coords : List ℕ) (v : ℕ) → is_plain_row (map (λ c. decimal (c + 1)) coords ++ value_word v ∷ []) ≡ true
+pair_are_plain [] v = rw (is_word-value_word v, is_not_history-value_word v) refl
+pair_are_plain (c ∷ cs) v = true_both _ (begins_no_history (decimal (c + 1) ∷ [])) (words (c ∷ cs)) (is_not_history-decimal (c + 1))
   where
     words : (xs : List ℕ) → list_all is_word (map (λ x. decimal (x + 1)) xs ++ value_word v ∷ []) ≡ true
     words [] = rw (is_word-value_word v) refl
     words (x ∷ xs) = rw (is_word-decimal (x + 1)) (words xs)
 
 -- the lines of nonzeros are words, and none begins with `history`
-pub pairs_good : (pairs : List (List ℕ × ℕ)) → list_all is_good (map pair_row pairs) ≡ true
-pairs_good [] = refl
-pairs_good (p ∷ ps) = true_both (is_good (pair_row p)) (list_all is_good (map pair_row ps)) (pair_good p.0 p.1) (pairs_good ps)
+pub pairs_are_plain : (pairs : List (List ℕ × ℕ)) → list_all is_plain_row (map pair_row pairs) ≡ true
+pairs_are_plain [] = refl
+pairs_are_plain (p ∷ ps) = true_both (is_plain_row (pair_row p)) (list_all is_plain_row (map pair_row ps)) (pair_are_plain p.0 p.1) (pairs_are_plain ps)
 
-call_rows_good : (n : ℕ) (o : Option Reply) → list_all is_good (call_rows n o) ≡ true
-call_rows_good n None = rw (is_word-decimal n, is_other-decimal n) refl
-call_rows_good n (Some Done) = rw (is_word-decimal n, is_other-decimal n) refl
-call_rows_good n (Some (Value v)) = rw (is_word-decimal n, is_word-value_word v, is_other-decimal n) refl
-call_rows_good n (Some (Result pairs)) = rw (is_word-decimal n, is_word-decimal (length pairs), is_other-decimal n) (pairs_good pairs)
+call_rows_are_plain : (n : ℕ) (o : Option Reply) → list_all is_plain_row (call_rows n o) ≡ true
+call_rows_are_plain n None = rw (is_word-decimal n, is_not_history-decimal n) refl
+call_rows_are_plain n (Some Done) = rw (is_word-decimal n, is_not_history-decimal n) refl
+call_rows_are_plain n (Some (Value v)) = rw (is_word-decimal n, is_word-value_word v, is_not_history-decimal n) refl
+call_rows_are_plain n (Some (Result pairs)) = rw (is_word-decimal n, is_word-decimal (length pairs), is_not_history-decimal n) (pairs_are_plain pairs)
 
 refusal_words_are_words : (r : Refusal) → refusal_is_named r ≡ true → list_all is_word (refusal_words r) ≡ true
 refusal_words_are_words (because.Form column) h = rw (is_word-decimal column) refl
@@ -79,44 +79,50 @@ refusal_words_are_words (because.Repeated var) h = rw (is_word-is_name var h) re
 refusal_words_are_words (because.Access term) h = rw (is_word-decimal term) refl
 refusal_words_are_words (because.Uncovered term var) h = rw (is_word-decimal term, is_word-is_name var h) refl
 
-line_rows_good : (d : Decls) (n : ℕ) (v : Verdict) (o : Option Reply) → verdict_is_valid d v ≡ true → list_all is_good (line_rows n v o) ≡ true
-line_rows_good d n (Accepted call) o h = call_rows_good n o
-line_rows_good d n (Refused r) o h = rw (is_word-decimal n, refusal_words_are_words r h, is_other-decimal n) refl
+line_rows_are_plain : (d : Decls) (n : ℕ) (v : Verdict) (o : Option Reply) → verdict_is_valid d v ≡ true → list_all is_plain_row (line_rows n v o) ≡ true
+line_rows_are_plain d n (Accepted call) o h = call_rows_are_plain n o
+line_rows_are_plain d n (Refused r) o h = rw (is_word-decimal n, refusal_words_are_words r h, is_not_history-decimal n) refl
 
-lines_good : (d : Decls) (r : ℕ → Option Reply) (n : ℕ) (vs : List Verdict) → list_all (verdict_is_valid d) vs ≡ true → list_all is_good (lines_rows r n vs) ≡ true
-lines_good d r n [] h = refl
-lines_good d r n (v ∷ vs) h =
+lines_are_plain : (d : Decls) (r : ℕ → Option Reply) (n : ℕ) (vs : List Verdict) → list_all (verdict_is_valid d) vs ≡ true
+    → list_all is_plain_row (lines_rows r n vs) ≡ true
+lines_are_plain d r n [] h = refl
+lines_are_plain d r n (v ∷ vs) h =
     let both = both_true (verdict_is_valid d v) (list_all (verdict_is_valid d) vs) h in
-    list_all-append is_good (line_rows n v (r n)) (lines_rows r (n + 1) vs) (line_rows_good d n v (r n) both.0) (lines_good d r (n + 1) vs both.1)
+    list_all-append is_plain_row (line_rows n v (r n)) (lines_rows r (n + 1) vs) (line_rows_are_plain d n v (r n) both.0) (lines_are_plain d r (n
+    + 1) vs both.1)
 
-session_row_good : (s : ℕ) → is_good (codes "session" ∷ decimal s ∷ []) ≡ true
-session_row_good s = rw (is_word-decimal s) refl
+session_row_are_plain : (s : ℕ) → is_plain_row (codes "session" ∷ decimal s ∷ []) ≡ true
+session_row_are_plain s = rw (is_word-decimal s) refl
 
 -- the rows of sessions are words, and none begins with `history`
-pub sessions_good : (w : World) (es : List Entry) (s : ℕ) (scripts : List (List Verdict)) → list_all (list_all (verdict_is_valid w.decls)) scripts ≡ true → list_all is_good (flat_map (session_rows w es) (enumerate_from s scripts)) ≡ true
-sessions_good w es s [] h = refl
-sessions_good w es s (vs ∷ scripts) h =
+pub sessions_are_plain : (w : World) (es : List Entry) (s : ℕ) (scripts : List (List Verdict)) → list_all (list_all (verdict_is_valid w.decls)) scripts ≡ true
+    → list_all is_plain_row (flat_map (session_rows w es) (enumerate_from s scripts)) ≡ true
+sessions_are_plain w es s [] h = refl
+sessions_are_plain w es s (vs ∷ scripts) h =
     let both = both_true (list_all (verdict_is_valid w.decls) vs) (list_all (list_all (verdict_is_valid w.decls)) scripts) h in
-    list_all-append is_good (session_rows w es (s, vs)) (flat_map (session_rows w es) (enumerate_from (s + 1) scripts))
-    (true_both _ _ (session_row_good s) (lines_good w.decls (reply_at w es s) 1 vs both.0))
-    (sessions_good w es (s + 1) scripts both.1)
+    list_all-append is_plain_row (session_rows w es (s, vs)) (flat_map (session_rows w es) (enumerate_from (s + 1) scripts))
+    (true_both _ _ (session_row_are_plain s) (lines_are_plain w.decls (reply_of_turn w es s) 1 vs both.0))
+    (sessions_are_plain w es (s + 1) scripts both.1)
 
-pub good_words : (row : List (List ℕ)) → is_good row ≡ true → list_all is_word row ≡ true
-good_words row h = (both_true (list_all is_word row) (is_no_history row) h).0
+-- a plain row has words alone
+pub plain_words : (row : List (List ℕ)) → is_plain_row row ≡ true → list_all is_word row ≡ true
+plain_words row h = (both_true (list_all is_word row) (begins_no_history row) h).0
 
-pub good_no_history : (row : List (List ℕ)) → is_good row ≡ true → is_no_history row ≡ true
-good_no_history row h = (both_true (list_all is_word row) (is_no_history row) h).1
+-- a plain row does not begin with `history`
+pub plain_no_history : (row : List (List ℕ)) → is_plain_row row ≡ true → begins_no_history row ≡ true
+plain_no_history row h = (both_true (list_all is_word row) (begins_no_history row) h).1
 
 -- ---- rows after the history
 
 tensor_words : (w : World) (es : List Entry) (t : ℕ) → IsValid w → t < length w.decls.tensors → list_all (list_all is_word) (tensor_rows w es t) ≡ true
 tensor_words w es t v l =
-    let pairs = nonzeros (fold_of w es t) (all_below (dims_of w.decls t)) in
+    let pairs = nonzeros (contents_after w es t) (all_below (dims_of w.decls t)) in
     rw (is_word-is_name (name_in (slice_get w.decls.tensors t)) (name_at w.decls t v.decls l), is_word-decimal (length pairs))
-    (list_all-weaker is_good (list_all is_word) (map pair_row pairs) good_words (pairs_good pairs))
+    (list_all-weaker is_plain_row (list_all is_word) (map pair_row pairs) plain_words (pairs_are_plain pairs))
 
 -- the rows of printed tensors are words
-pub tensors_words : (w : World) (es : List Entry) (printed : List ℕ) → IsValid w → All (λ t. t < length w.decls.tensors) printed → list_all (list_all is_word) (flat_map (tensor_rows w es) printed) ≡ true
+pub tensors_words : (w : World) (es : List Entry) (printed : List ℕ) → IsValid w → All (λ t. t < length w.decls.tensors) printed
+    → list_all (list_all is_word) (flat_map (tensor_rows w es) printed) ≡ true
 tensors_words w es [] v h = refl
 tensors_words w es (t ∷ ts) v h = list_all-append (list_all is_word) (tensor_rows w es t) (flat_map (tensor_rows w es) ts)
     (tensor_words w es t v (h 0 t (omega arith)))

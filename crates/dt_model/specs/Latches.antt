@@ -26,5 +26,5 @@ needs d (Batch updates) w = list_any (λ u. latch_of_cell d (update_cell u) == w
 needs d (Query s) w = list_any (λ a. is_latch_of d w (tensor_named d a.0)) (accesses s.right)
 
 -- the latches that a call needs, ascending
-abbrev pub latches_of : Decls → Call → List ℕ
-latches_of d call = filter (needs d call) (range_with_len 0 (latch_count d))
+abbrev pub needed_latches : Decls → Call → List ℕ
+needed_latches d call = filter (needs d call) (range_with_len 0 (latch_count d))

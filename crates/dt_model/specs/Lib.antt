@@ -1,3 +1,5 @@
+pub mod Functions
+pub mod Stored
 pub mod Names
 pub mod JournalValue
 pub mod Contents
@@ -5,9 +7,16 @@ pub mod Tensors
 pub mod Statements
 pub mod Refusals
 pub mod Verdicts
+pub mod FileNames
+pub mod Flat
 pub mod Calls
 pub mod Latches
 pub mod Worlds
 pub mod Runs
 pub mod Texts
 pub mod Report
+pub mod Pairs
+pub mod Packed
+pub mod Gathering
+pub mod Widths
+pub mod Kept

@@ -1,5 +1,6 @@
--- Why a line that is read is refused: the reasons for cells, numbers and statements, in their order.
-use Rattle.std.specs.Prelude.{ℕ, ◌+◌, ◌-◌, Bool, true, false, not, List, [], ◌∷◌, ◌++◌, map, find, length, slice_index, Option, Some, None, ◌==◌, if◌then◌else◌, ◌&&◌, ◌||◌, nat_lt, is_none, unwrap_or, option_and_then}
+-- Why a written line is refused: the reasons for cells, numbers and statements, in their order.
+use Rattle.std.specs.Prelude.{ℕ, ◌+◌, ◌-◌, Bool, true, false, not, List, [], ◌∷◌, ◌++◌, map, find}
+use Rattle.std.specs.Prelude.{length, slice_index, Option, Some, None, ◌==◌, if◌then◌else◌, ◌&&◌, ◌||◌, nat_le, is_none, unwrap_or, option_and_then}
 use Rattle.std.specs.List.{flat_map, enumerate_from}
 use Rattle.std.specs.Option.{option_map}
 use Rattle.dt_model.specs.declared.statements.Expr.{Expr, end_of-Expr, more_of-Expr}
@@ -8,29 +9,13 @@ use Rattle.dt_model.specs.declared.statements.Stmt.{Stmt}
 use Rattle.dt_model.specs.declared.declared_tensors.Decls.{Decls}
 use Rattle.dt_model.specs.declared.replies.Refusal.{Refusal}
 use Rattle.dt_model.specs.declared.replies.Refusal.TheVariants as because
+use Rattle.dt_model.specs.declared.written.WrittenNumber.{WrittenNumber}
+use Rattle.dt_model.specs.declared.written.WrittenNumber.TheVariants as number
+use Rattle.dt_model.specs.declared.written.WrittenCoordinate.{WrittenCoordinate}
+use Rattle.dt_model.specs.declared.written.WrittenCoordinate.TheVariants as coordinate
+use Rattle.dt_model.specs.declared.written.WrittenUpdate.{WrittenUpdate}
 use Rattle.dt_model.specs.Tensors.{tensor_named, dims_of}
-use Rattle.dt_model.specs.Statements.{accesses, terms, has, own_vars}
-
--- ---- lines that are read, before they are judged
-
--- a written number: one that a call can hold, one that isn't whole, or one that is too large
-pub data WrittenNumber : Type 0 where
-  Whole : (value : ℕ) → WrittenNumber
-  Fraction : WrittenNumber
-  Huge : WrittenNumber
-
--- an update as it is written: whether it adds, its tensor's name, its coordinates counted from 1, and its number
-pub record WrittenUpdate : Type 0 where
-  pub adds : Bool
-  pub name : List ℕ
-  pub coords : List ℕ
-  pub number : WrittenNumber
-
--- a call as it is written, whose form and limits are in order
-pub data WrittenCall : Type 0 where
-  WrittenGet : (name : List ℕ) (coords : List ℕ) → WrittenCall
-  WrittenBatch : (updates : List WrittenUpdate) → WrittenCall
-  WrittenQuery : (stmt : Stmt) → WrittenCall
+use Rattle.dt_model.specs.Statements.{accesses, terms, contains_number, own_vars}
 
 -- ---- the first of some reasons
 
@@ -51,31 +36,37 @@ when false x = None
 
 -- ---- cells
 
+-- whether a written coordinate is from 1 to the dimension
+abbrev pub is_in_dimension : ℕ → WrittenCoordinate → Bool
+is_in_dimension d (coordinate.Number n) = nat_le 1 n && nat_le n d
+is_in_dimension d coordinate.Huge = false
+
 -- the first mode, counted from 1, whose coordinate isn't from 1 to the dimension
-abbrev pub range_fault : List ℕ → ℕ → List ℕ → List ℕ → Option Refusal
-range_fault name mode (d ∷ ds) (c ∷ cs) = or_else (when (c == 0 || nat_lt d c) (because.Range name mode d)) (range_fault name (mode + 1) ds cs)
+abbrev pub range_fault : List ℕ → ℕ → List ℕ → List WrittenCoordinate → Option Refusal
+range_fault name mode (d ∷ ds) (c ∷ cs) = or_else (when (not (is_in_dimension d c)) (because.Range name mode d))
+    (range_fault name (mode + 1) ds cs)
 range_fault name mode ds cs = None
 
 -- why a cell is refused, where its tensor has this number, if it is declared
-abbrev pub cell_fault_in : Decls → List ℕ → List ℕ → Option ℕ → Option Refusal
-cell_fault_in d name coords None = Some (because.Name name)
-cell_fault_in d name coords (Some t) =
-    or_else (when (not (length coords == length (dims_of d t))) (because.Rank name (length coords) (length (dims_of d t))))
-    (range_fault name 1 (dims_of d t) coords)
+abbrev pub cell_fault_in : Decls → List ℕ → List WrittenCoordinate → Option ℕ → Option Refusal
+cell_fault_in d name coordinates None = Some (because.Name name)
+cell_fault_in d name coordinates (Some t) = or_else
+    (when (not (length coordinates == length (dims_of d t))) (because.Rank name (length coordinates) (length (dims_of d t))))
+    (range_fault name 1 (dims_of d t) coordinates)
 
 -- why a cell is refused: its tensor's name, then the count of coordinates, then the first mode that is out of range
-abbrev pub cell_fault : Decls → List ℕ → List ℕ → Option Refusal
-cell_fault d name coords = cell_fault_in d name coords (tensor_named d name)
+abbrev pub cell_fault : Decls → List ℕ → List WrittenCoordinate → Option Refusal
+cell_fault d name coordinates = cell_fault_in d name coordinates (tensor_named d name)
 
 -- why a written number is refused
 abbrev pub number_fault : WrittenNumber → Option Refusal
-number_fault (Whole v) = None
-number_fault Fraction = Some because.NotWhole
-number_fault Huge = Some because.TooLarge
+number_fault (number.Whole v) = None
+number_fault number.Fraction = Some because.NotWhole
+number_fault number.Huge = Some because.TooLarge
 
 -- why an update is refused: its cell, then its number
 abbrev pub update_fault : Decls → WrittenUpdate → Option Refusal
-update_fault d u = or_else (cell_fault d u.name u.coords) (number_fault u.number)
+update_fault d u = or_else (cell_fault d u.name u.coordinates) (number_fault u.number)
 
 -- ---- statements
 
@@ -91,27 +82,28 @@ order_named d name = unwrap_or (option_map (λ t. length (dims_of d t)) (tensor_
 abbrev pub rank_fault : Decls → List ℕ × List ℕ → Option Refusal
 rank_fault d a = when (not (length a.1 == order_named d a.0)) (because.Rank a.0 (length a.1) (order_named d a.0))
 
--- the name at a place
+-- the name at an index
 abbrev pub nth_name : List (List ℕ) → ℕ → List ℕ
 nth_name [] n = []
 nth_name (x ∷ xs) n = if n == 0 then x else nth_name xs (n - 1)
 
--- each variable's place in an access, with its dimension there
+-- each variable of an access, with its dimension there
 abbrev pub places_with_dims : Decls → List ℕ → ℕ → List ℕ → List (ℕ × ℕ)
 places_with_dims d name place [] = []
-places_with_dims d name place (v ∷ vs) = (v, unwrap_or (option_map (λ t. slice_index (dims_of d t) place) (tensor_named d name)) 0) ∷ places_with_dims d name (place + 1) vs
+places_with_dims d name place (v ∷ vs) = (v, unwrap_or (option_map (λ t. slice_index (dims_of d t) place) (tensor_named d name)) 0)
+    ∷ places_with_dims d name (place + 1) vs
 
--- the first place whose variable was seen before with another dimension
+-- the first variable that was seen before with another dimension
 abbrev pub dimension_fault : List (List ℕ) → List (ℕ × ℕ) → List (ℕ × ℕ) → Option Refusal
 dimension_fault names seen [] = None
 dimension_fault names seen (p ∷ ps) = or_else
     (option_and_then (λ q. when (not (q.1 == p.1)) (because.Dimension (nth_name names p.0) q.1 p.1)) (find (λ q. q.0 == p.0) seen))
     (dimension_fault names (seen ++ p ∷ []) ps)
 
--- the first variable of a list, in order of its first place, that stands there again
+-- the first variable of a list that is there again later
 abbrev pub repeated_in : List ℕ → Option ℕ
 repeated_in [] = None
-repeated_in (v ∷ vs) = if has vs v then Some v else repeated_in vs
+repeated_in (v ∷ vs) = if contains_number vs v then Some v else repeated_in vs
 
 -- a list of variables that has one twice
 abbrev pub repeated_fault : List (List ℕ) → List ℕ → Option Refusal
@@ -120,7 +112,7 @@ repeated_fault names vs = option_map (λ v. because.Repeated (nth_name names v))
 -- whether an expression covers variable i: a sum where both sides do, a product where either factor does
 abbrev pub covers : Expr → ℕ → Bool
 covers (Literal v) i = false
-covers (Access tensor vars) i = has vars i
+covers (Access tensor vars) i = contains_number vars i
 covers (Plus' s (more_of-Expr a end_of-Expr) t (more_of-Expr b end_of-Expr)) i = covers a i && covers b i
 covers (Minus' s (more_of-Expr a end_of-Expr) t (more_of-Expr b end_of-Expr)) i = covers a i && covers b i
 covers (Times' s (more_of-Expr a end_of-Expr) t (more_of-Expr b end_of-Expr)) i = covers a i || covers b i

@@ -1,4 +1,4 @@
--- The report of a run as a text, and the history that a text tells.
+-- The report of a run as a text, and the history that is read from a text.
 use Rattle.std.specs.Prelude.{ℕ, ◌≡◌, ◌+◌, List, [], ◌∷◌, ◌++◌, map, length, take, slice_get, Option, Some, None, if◌then◌else◌, codes, nat_eq, unwrap_or}
 use Rattle.std.specs.List.{flat_map, filter_map, enumerate_from}
 use Rattle.std.specs.Option.{option_map}
@@ -15,7 +15,7 @@ use Rattle.dt_model.specs.declared.replies.Verdict.TheVariants.{Accepted, Refuse
 use Rattle.dt_model.specs.declared.replies.World.{World}
 use Rattle.dt_model.specs.Tensors.{dims_of}
 use Rattle.dt_model.specs.Statements.{all_below, nonzeros}
-use Rattle.dt_model.specs.Runs.{fold_of, call_of, reply_at, IsOrder, AllGets}
+use Rattle.dt_model.specs.Runs.{contents_after, call_of, reply_of_turn, IsOrder, AllGets}
 use Rattle.dt_model.specs.Texts.{text_of, rows_of, value_word, number_of}
 
 -- the words of a refusal after `refused`
@@ -42,7 +42,7 @@ reply_rows n Done = (decimal n ∷ codes "ok" ∷ []) ∷ []
 reply_rows n (Value v) = (decimal n ∷ codes "value" ∷ value_word v ∷ []) ∷ []
 reply_rows n (Result pairs) = (decimal n ∷ codes "result" ∷ decimal (length pairs) ∷ []) ∷ map pair_row pairs
 
--- the rows of call n, which was answered or found no memory
+-- the rows of call n, which was answered or ran out of memory
 abbrev pub call_rows : ℕ → Option Reply → List (List (List ℕ))
 call_rows n None = (decimal n ∷ codes "no" ∷ codes "memory" ∷ []) ∷ []
 call_rows n (Some reply) = reply_rows n reply
@@ -59,7 +59,7 @@ lines_rows r n verdicts = flat_map (λ q. line_rows q.0 q.1 (r q.0)) (enumerate_
 -- the rows of a session, given its number and its verdicts
 abbrev pub session_rows : World → List Entry → ℕ × List Verdict → List (List (List ℕ))
 session_rows w entries p = (codes "session" ∷ decimal p.0 ∷ [])
-    ∷ lines_rows (reply_at w entries p.0) 1 p.1
+    ∷ lines_rows (reply_of_turn w entries p.0) 1 p.1
 
 -- the row of a turn: session and number
 abbrev pub turn_row : Entry → List (List ℕ)
@@ -76,7 +76,7 @@ name_in (Some t) = t.name
 
 -- the rows of a printed tensor: its nonzeros after the entries, ascending by coordinates
 abbrev pub tensor_rows : World → List Entry → ℕ → List (List (List ℕ))
-tensor_rows w entries t = let pairs = nonzeros (fold_of w entries t) (all_below (dims_of w.decls t)) in
+tensor_rows w entries t = let pairs = nonzeros (contents_after w entries t) (all_below (dims_of w.decls t)) in
     (codes "tensor" ∷ name_in (slice_get w.decls.tensors t) ∷ decimal (length pairs) ∷ []) ∷ map pair_row pairs
 
 -- the rows of a report: each session's, then the history, then the printed tensors
@@ -88,17 +88,17 @@ report_rows w printed entries = flat_map (session_rows w entries) (enumerate_fro
 abbrev pub report : World → List ℕ → List Entry → List ℕ
 report w printed entries = text_of (report_rows w printed entries)
 
--- ---- the history that a text tells
+-- ---- the history in a text
 
 -- the entry of a session and number, if both are read and the world has the call
-abbrev pub entry_by : World → Option ℕ → Option ℕ → Option Entry
-entry_by w None n = None
-entry_by w (Some s) None = None
-entry_by w (Some s) (Some n) = option_map (λ call. record { turn = record { session = s; number = n }; call = call }) (call_of w s n)
+abbrev pub entry_from : World → Option ℕ → Option ℕ → Option Entry
+entry_from w None n = None
+entry_from w (Some s) None = None
+entry_from w (Some s) (Some n) = option_map (λ call. record { turn = record { session = s; number = n }; call = call }) (call_of w s n)
 
--- the entry that a row tells
+-- the entry that a row names
 abbrev pub entry_of : World → List (List ℕ) → Option Entry
-entry_of w (s ∷ n ∷ []) = entry_by w (number_of s) (number_of n)
+entry_of w (s ∷ n ∷ []) = entry_from w (number_of s) (number_of n)
 entry_of w row = None
 
 -- the number in the first word, or 0
@@ -112,13 +112,13 @@ turn_rows [] = []
 turn_rows ([] ∷ rows) = turn_rows rows
 turn_rows ((word ∷ more) ∷ rows) = if pointwise nat_eq word (codes "history") then take (count_in more) rows else turn_rows rows
 
--- the history that a text tells: its turns, each with the world's call
+-- the history in a text: its turns, each with the world's call
 abbrev pub history : World → List ℕ → List Entry
 history w text = filter_map (entry_of w) (turn_rows (rows_of text))
 
 -- ---- what a run prints
 
--- the bytes are the report of the history that they tell, which one thread could have made
+-- the bytes are the report of the history in them, which one thread could have made
 pub record PrintsRun (w : World) (printed : List ℕ) (bytes : List ℕ) : Type 0 where
   pub reported : bytes ≡ report w printed (history w bytes)
   pub order : IsOrder w (history w bytes)

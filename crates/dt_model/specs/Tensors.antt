@@ -17,7 +17,7 @@ dims_in (Some t) = t.dims
 abbrev pub dims_of : Decls → ℕ → List ℕ
 dims_of d t = dims_in (slice_get d.tensors t)
 
--- the number of a tensor's latches; 1 where there is none
+-- the number of a tensor's latches, if there is one; else 1
 abbrev pub latches_in : Option TensorDecl → ℕ
 latches_in None = 1
 latches_in (Some t) = t.latches
@@ -34,9 +34,13 @@ width_in dimension latches = (dimension + latches - 1) / latches
 abbrev pub width_of : Decls → ℕ → ℕ
 width_of d t = width_in (slice_index (dims_of d t) 0) (latches_of_tensor d t)
 
--- the number of a tensor's first latch
+-- how many latches these tensors have
+abbrev pub total_latches : List TensorDecl → ℕ
+total_latches ts = sum_by (λ t. t.latches) ts
+
+-- the number of a tensor's first latch: as many as the tensors before it have
 abbrev pub first_latch : Decls → ℕ → ℕ
-first_latch d t = sum_by (λ x. x.latches) (take t d.tensors)
+first_latch d t = total_latches (take t d.tensors)
 
 -- the latch of a cell: its tensor's first, and one more for each fiber before its own
 abbrev pub latch_of : Decls → ℕ → List ℕ → ℕ
@@ -44,4 +48,4 @@ latch_of d t c = first_latch d t + slice_index c 0 / width_of d t
 
 -- how many latches the tensors have, which is also the number of the journal's latch
 abbrev pub latch_count : Decls → ℕ
-latch_count d = sum_by (λ x. x.latches) d.tensors
+latch_count d = total_latches d.tensors

@@ -9,23 +9,31 @@ use Rattle.dt_model.specs.declared.replies.Refusal.TheVariants as because
 use Rattle.dt_model.specs.declared.replies.Verdict.{Verdict}
 use Rattle.dt_model.specs.declared.replies.Verdict.TheVariants.{Accepted, Refused}
 use Rattle.dt_model.specs.declared.replies.World.{World}
+use Rattle.dt_model.specs.declared.limits.TheConstants.{MOST_SCHEMAS, MOST_KINDS, MOST_TENSORS, MOST_ORDER, MOST_TENSOR_LATCHES}
+use Rattle.dt_model.specs.declared.limits.TheConstants.{MOST_LATCHES, MOST_SESSIONS, MOST_CALLS, MOST_LINES}
+use Rattle.dt_model.specs.Flat.{begins_with_flat}
 use Rattle.dt_model.specs.Names.{is_name}
 use Rattle.dt_model.specs.Tensors.{dims_of, latch_count}
 use Rattle.dt_model.specs.Verdicts.{names_differ, all_in_range, call_is_valid}
 
+-- ---- declarations
+
 -- whether a tensor has a name, 1 to 5 dimensions from 1, as many declared formats, and 1 to 256 latches
 abbrev pub tensor_is_valid : Decls → TensorDecl → Bool
-tensor_is_valid d t = is_name t.name && nat_le 1 (length t.dims) && nat_le (length t.dims) 5
+tensor_is_valid d t = is_name t.name && nat_le 1 (length t.dims) && nat_le (length t.dims) MOST_ORDER
     && list_all (λ n. nat_le 1 n && nat_lt n (2 ^ 32)) t.dims
     && (length t.formats.items == length t.dims)
     && list_all (λ f. nat_lt f (length d.schemas)) t.formats.items
-    && nat_le 1 t.latches && nat_le t.latches 256
+    && nat_le 1 t.latches && nat_le t.latches MOST_TENSOR_LATCHES
 
--- the limits on schemas, tensors, orders, dimensions and latches; schema number 0 is `flat`
+-- schema number 0 is `flat`; the limits on schemas, tensors, orders, dimensions and latches
 abbrev pub decls_are_valid : Decls → Bool
-decls_are_valid d = nat_le (length d.schemas) 17 && list_all (λ s. nat_le (length s.kinds.items) 16) d.schemas
-    && nat_le (length d.tensors) 32 && names_differ (map (λ t. t.name) d.tensors)
-    && list_all (tensor_is_valid d) d.tensors && nat_le (latch_count d) 1024
+decls_are_valid d = begins_with_flat d.schemas && nat_le (length d.schemas) (MOST_SCHEMAS + 1)
+    && list_all (λ s. nat_le (length s.kinds.items) MOST_KINDS) d.schemas
+    && nat_le (length d.tensors) MOST_TENSORS && names_differ (map (λ t. t.name) d.tensors)
+    && list_all (tensor_is_valid d) d.tensors && nat_le (latch_count d) MOST_LATCHES
+
+-- ---- worlds
 
 -- whether the names in a refusal are names
 abbrev pub refusal_is_named : Refusal → Bool
@@ -55,9 +63,9 @@ loads_are_valid d p = list_all (λ line. all_in_range (dims_of d p.0) line.0) p.
 -- lines for each tensor, all in range; and every verdict is valid
 pub record IsValid (w : World) : Type 0 where
   pub decls : IsTrue (decls_are_valid w.decls)
-  pub sessions : IsTrue (nat_le (length w.scripts) 16)
-  pub calls : IsTrue (list_all (λ s. nat_le (length s) 65536) w.scripts)
-  pub sizes : IsTrue (nat_le (sum_by length w.base + sum_by (λ s. sum_by updates_in s) w.scripts) 700000)
+  pub sessions : IsTrue (nat_le (length w.scripts) MOST_SESSIONS)
+  pub calls : IsTrue (list_all (λ s. nat_le (length s) MOST_CALLS) w.scripts)
+  pub sizes : IsTrue (nat_le (sum_by length w.base + sum_by (λ s. sum_by updates_in s) w.scripts) MOST_LINES)
   pub tensors : IsTrue (length w.base == length w.decls.tensors)
   pub loads : IsTrue (list_all (loads_are_valid w.decls) (enumerate_from 0 w.base))
   pub accepted : IsTrue (list_all (list_all (verdict_is_valid w.decls)) w.scripts)

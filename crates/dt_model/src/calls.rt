@@ -1,14 +1,18 @@
+//! Cells, updates and calls, and the journal of the calls that were made.
 ghost use Rattle.std.specs.Prelude.{◌≡◌, ◌+◌, ◌<◌, ◌≤◌, [], ◌∷◌, ◌++◌, length, slice_get, IfOk, OnErr};
 ghost use Rattle.std.specs.Option.{option_copied};
-ghost use Rattle.dt_model.specs.Calls.{IsNoGet};
+ghost use Rattle.dt_model.specs.declared.calls.Call.TheVariants.{Query};
+ghost use Rattle.dt_model.specs.Calls.{IsNoGet, IsNoSingle};
 
-use crate::lists::{Listed, NoMemory};
+use crate::lists::NoMemory;
 use crate::places::Coords;
 use crate::statements::Stmt;
+use crate::updates::Updates;
+use sqlite_items::Boxed;
 use std::alloc::Global;
 use std::marker::Model;
 
-/// A cell of a tensor. The tensor's number and the coordinates are counted from 0.
+/// A cell of a tensor. The tensor's number and the coordinates are counted from 0. It has 40 bytes.
 #[derive(Debug, Drop, PartialEq, Eq)]
 pub struct Cell {
     /// The tensor's number, by order of declaration.
@@ -17,7 +21,7 @@ pub struct Cell {
     pub at: Coords,
 }
 
-/// A change of one cell.
+/// A change of one cell. It has 56 bytes.
 #[derive(Debug, Drop, PartialEq, Eq)]
 pub enum Update {
     /// The cell has this value from now on; 0 empties it.
@@ -56,25 +60,8 @@ impl Update {
     }
 }
 
-impl Listed<Update> {
-    /// Equal updates, in their order.
-    pub fn copy(&self, alloc: Global) -> Result<Updates, NoMemory>
-        ensures value { IfOk result (λ updates. updates ≡ self.now) }
-    {
-        let mut updates = Listed::new(alloc);
-        for update in self.as_slice() {
-            if updates.push(update.copy()).is_err() {
-                return Err(NoMemory);
-            }
-        }
-        Ok(updates)
-    }
-}
-
-/// The updates of a batch, 1 to 64 in a valid call.
-pub type Updates = Listed<Update>;
-
-/// What a session asks for.
+/// What a session asks for. It has 72 bytes: a statement is large, so it lies in an allocation of its
+/// own, and contracts see the statement.
 #[derive(Debug, Drop)]
 pub enum Call {
     /// The number in a cell.
@@ -82,20 +69,28 @@ pub enum Call {
     /// Updates that are made one after the other, with nothing between them.
     Batch(Updates),
     /// The nonzeros of a statement's answer.
-    Query(Stmt),
+    Query(Boxed<Stmt>),
 }
 
 impl Call {
-    /// An equal call. A get takes no memory.
+    /// An equal call. A get takes no memory, and a batch of one update none.
     pub fn copy(&self, alloc: Global) -> Result<Call, NoMemory>
         ensures value { IfOk result (λ call. call ≡ self.now) }
         ensures get { OnErr result (IsNoGet self.now) }
+        ensures one { OnErr result (IsNoSingle self.now) }
     {
         match self {
             Call::Get(cell) => Ok(Call::Get(cell.copy())),
             Call::Batch(updates) => Ok(Call::Batch(updates.copy(alloc)?)),
-            Call::Query(stmt) => Ok(Call::Query(stmt.copy(alloc)?)),
+            Call::Query(stmt) => Call::query(alloc, stmt.get().copy(alloc)?),
         }
+    }
+
+    /// The query of a statement.
+    pub fn query(alloc: Global, stmt: Stmt) -> Result<Call, NoMemory>
+        ensures value { IfOk result (λ call. call ≡ Query stmt) }
+    {
+        Ok(Call::Query(Boxed::new(alloc, stmt)?))
     }
 }
 
@@ -108,7 +103,7 @@ pub struct Turn {
     pub number: u32,
 }
 
-/// A call that was made, with the turn at which it was.
+/// A call that was made, with its turn. It has 80 bytes.
 #[derive(Debug, Drop)]
 pub struct Entry {
     /// Whose call it is.
@@ -118,9 +113,11 @@ pub struct Entry {
 }
 
 impl Entry {
-    /// An equal entry.
+    /// An equal entry. That of a get takes no memory, nor does that of a batch of one update.
     pub fn copy(&self, alloc: Global) -> Result<Entry, NoMemory>
         ensures value { IfOk result (λ entry. entry ≡ self.now) }
+        ensures get { OnErr result (IsNoGet self.now.call) }
+        ensures one { OnErr result (IsNoSingle self.now.call) }
     {
         Ok(Entry {
             turn: self.turn,
@@ -129,8 +126,8 @@ impl Entry {
     }
 }
 
-/// The entries of a run in their order, with room that is taken when the journal is made. Contracts
-/// see the entries and the spare room. Places are counted from 0.
+/// The entries of a run in their order, with room that is allocated when the journal is made.
+/// Contracts see the entries and the spare room. Indices are counted from 0.
 #[derive(Debug, Drop)]
 pub struct Journal {
     entries: Vec<Entry>,
@@ -158,10 +155,8 @@ impl Journal {
         ensures entries { IfOk result (λ j. j.entries ≡ []) }
         ensures spare { IfOk result (λ j. j.spare ≡ n) }
     {
-        match Vec::with_capacity(alloc, n as usize) {
-            Ok(entries) => Ok(Journal { entries, spare: n }),
-            Err(_) => Err(NoMemory),
-        }
+        let entries = Vec::with_capacity(alloc, n as usize)?;
+        Ok(Journal { entries, spare: n })
     }
 
     /// Puts an entry at the end. It takes no memory.
@@ -183,11 +178,11 @@ impl Journal {
         self.entries.len()
     }
 
-    /// The entry at a place. None exactly where the place isn't below the length.
-    pub fn get(&self, place: usize) -> Option<&Entry>
-        ensures value { option_copied result ≡ slice_get self.now.entries place }
+    /// The entry at an index. None exactly where the index isn't below the length.
+    pub fn get(&self, index: usize) -> Option<&Entry>
+        ensures value { option_copied result ≡ slice_get self.now.entries index }
     {
-        self.entries.get(place)
+        self.entries.get(index)
     }
 
     /// The entries in order.

@@ -1,7 +1,10 @@
+//! Node schemas and tensors, as they are declared.
 ghost use Rattle.std.specs.Prelude.{◌≡◌, [], ◌∷◌};
 ghost use Rattle.dt_model.specs.declared.declared_tensors.Links.TheVariants.{Flat};
+ghost use Rattle.dt_model.specs.Flat.{flat_name, flat_schema};
 
-use crate::lists::Listed;
+use crate::limits::{FLAT_RUN, MOST_KINDS, MOST_ORDER};
+use crate::lists::List;
 use crate::names::Name;
 use crate::places::Coords;
 use arrayvec::ArrayVec;
@@ -33,7 +36,8 @@ pub struct Kind {
 }
 
 impl Default for Kind {
-    /// The flat kind `_` of one element, which stands in the unused places of an array of kinds.
+    /// A placeholder, which no text declares: it fills the unused places of an `ArrayVec` of kinds. It
+    /// is flat, has the name `_`, and its runs have one element.
     fn default() -> Kind
         ensures value { result ≡ record { name = 95 ∷ []; lo = 1; hi = 1; links = Flat } }
     {
@@ -52,9 +56,37 @@ pub struct Schema {
     /// The schema's name.
     pub name: Name,
     /// Its kinds, in order of declaration.
-    pub kinds: ArrayVec<Kind, 16>,
+    pub kinds: ArrayVec<Kind, MOST_KINDS>,
     /// The name of the root's kind.
     pub root: Name,
+}
+
+impl Schema {
+    /// The schema `flat`, which every world has under number 0. Its bounds are written as 1 and 16, and
+    /// hold for no run: a flat run may have any length.
+    pub fn flat() -> Schema
+        ensures value { result ≡ flat_schema }
+    {
+        let mut kinds = ArrayVec::new();
+        kinds.push(Kind {
+            name: flat_name(),
+            lo: 1,
+            hi: FLAT_RUN,
+            links: Links::Flat,
+        });
+        Schema {
+            name: flat_name(),
+            kinds,
+            root: flat_name(),
+        }
+    }
+}
+
+/// The name `flat`.
+fn flat_name() -> Name
+    ensures value { result ≡ flat_name }
+{
+    Name::new(b"flat").unwrap()
 }
 
 /// A declared tensor. Its order is the number of its dimensions.
@@ -65,16 +97,16 @@ pub struct TensorDecl {
     /// The dimension of each mode.
     pub dims: Coords,
     /// For each mode the number of its schema, counted from 0.
-    pub formats: ArrayVec<u32, 5>,
-    /// Into how many fibers, each with a latch, its cells are parted by their leading coordinate.
+    pub formats: ArrayVec<u32, MOST_ORDER>,
+    /// How many fibers, each with its own latch, its cells are split into by their leading coordinate.
     pub latches: u32,
 }
 
-/// Schemas by number. Number 0 is `flat`.
-pub type Schemas = Listed<Schema>;
+/// Schemas by number. In valid declarations number 0 is `flat`.
+pub type Schemas = List<Schema>;
 
 /// Tensors by number, in order of declaration.
-pub type Tensors = Listed<TensorDecl>;
+pub type Tensors = List<TensorDecl>;
 
 /// What is declared before a run.
 #[derive(Debug, Drop, PartialEq, Eq)]

@@ -1,3 +1,4 @@
+//! What a latch guards.
 ghost use Rattle.std.specs.Prelude.{ℕ};
 ghost use Rattle.dt_model.specs.declared.declared_tensors.Decls.{Decls};
 ghost use Rattle.dt_model.specs.Contents.{Contents};

@@ -1,5 +1,7 @@
-ghost use Rattle.std.specs.Prelude.{◌≡◌, ◌<◌, ◌≤◌, IsTrue, length, slice_index, sum_by, ◌/◌};
-ghost use Rattle.dt_model.specs.Tensors.{latch_of, latch_count, width_in};
+//! The numbers of latches.
+ghost use Rattle.std.specs.Prelude.{◌≡◌, ◌<◌, ◌≤◌, IsTrue, length, slice_index, ◌/◌};
+ghost use Rattle.dt_model.specs.declared.limits.TheConstants.{MOST_LATCHES};
+ghost use Rattle.dt_model.specs.Tensors.{latch_of, latch_count, total_latches, width_in};
 ghost use Rattle.dt_model.specs.Verdicts.{all_in_range, cell_is_valid};
 ghost use Rattle.dt_model.specs.Worlds.{decls_are_valid};
 
@@ -15,22 +17,22 @@ pub fn latch_of(decls: &Decls, cell: &Cell) -> u32
     ensures below { result < latch_count decls.now }
 {
     let tensors = decls.tensors.as_slice();
-    latches_in(&tensors[..cell.tensor as usize]) + fiber_in(&tensors[cell.tensor as usize], cell)
+    total_latches(&tensors[..cell.tensor as usize]) + fiber_in(&tensors[cell.tensor as usize], cell)
 }
 
 /// How many latches the tensors have, at most 1,024. It is also the number of the journal's latch.
 pub fn latch_count(decls: &Decls) -> u32
     requires valid { IsTrue (decls_are_valid decls.now) }
     ensures value { result ≡ latch_count decls.now }
-    ensures few { result ≤ 1024 }
+    ensures few { result ≤ MOST_LATCHES }
 {
-    latches_in(decls.tensors.as_slice())
+    total_latches(decls.tensors.as_slice())
 }
 
 /// How many latches these tensors have. Of those before a tensor it is the number of its first latch.
-pub fn latches_in(tensors: &[TensorDecl]) -> u32
-    requires few { sum_by (λ t. t.latches) tensors.now ≤ 1024 }
-    ensures value { result ≡ sum_by (λ t. t.latches) tensors.now }
+pub fn total_latches(tensors: &[TensorDecl]) -> u32
+    requires few { total_latches tensors.now ≤ MOST_LATCHES }
+    ensures value { result ≡ total_latches tensors.now }
 {
     let mut sum = 0;
     for tensor in tensors {
@@ -52,6 +54,7 @@ fn fiber_in(tensor: &TensorDecl, cell: &Cell) -> u32
     cell.at.as_slice()[0] / width
 }
 
+/// How many leading coordinates a fiber has.
 fn width_in(dimension: u32, latches: u32) -> u32
     requires some { 0 < dimension }
     requires latched { 0 < latches }

@@ -1,7 +1,9 @@
+//! Names of tensors, variables, schemas and kinds.
 ghost use Rattle.std.specs.Prelude.{◌≡◌, ◌↔◌, [], ◌∷◌, IfSome, IsSome, IsTrue};
 ghost use Rattle.std.specs.List.{list_all};
 ghost use Rattle.dt_model.specs.Names.{is_name, is_name_start, is_name_byte};
 
+use crate::limits::{NAME_LIMIT, UNDERSCORE};
 use arrayvec::ArrayVec;
 use std::marker::Model;
 
@@ -9,7 +11,7 @@ use std::marker::Model;
 /// matters.
 #[derive(Debug, Drop, PartialEq, Eq)]
 pub struct Name {
-    bytes: ArrayVec<u8, 32>,
+    bytes: ArrayVec<u8, NAME_LIMIT>,
 }
 
 impl Model for Name {
@@ -25,30 +27,36 @@ impl Model for Name {
     ghost inverse = { λ xs. record { bytes = record { items = xs } } };
 }
 
+/// Whether a name may begin with the byte.
 fn is_name_start(byte: u8) -> bool
     ensures value { result ≡ is_name_start byte }
 {
-    byte.is_ascii_uppercase() || byte.is_ascii_lowercase() || byte == b'_'
+    byte.is_ascii_alphabetic() || byte == UNDERSCORE
 }
 
+/// Whether a name may have the byte behind its first.
 fn is_name_byte(byte: u8) -> bool
     ensures value { result ≡ is_name_byte byte }
 {
     is_name_start(byte) || byte.is_ascii_digit()
 }
 
+/// Whether each of the bytes may be in a name.
 fn are_name_bytes(bytes: &[u8]) -> bool
     ensures value { result ≡ list_all is_name_byte bytes.now }
 {
     bytes.iter().all(|byte| is_name_byte(*byte))
 }
 
+/// Whether the bytes are a name.
 fn is_name(bytes: &[u8]) -> bool
     ensures value { result ≡ is_name bytes.now }
 {
     match bytes {
         [] => false,
-        [first, rest @ ..] => { is_name_start(*first) && rest.len() < 32 && are_name_bytes(rest) }
+        [first, rest @ ..] => {
+            is_name_start(*first) && rest.len() < NAME_LIMIT && are_name_bytes(rest)
+        }
     }
 }
 
@@ -87,12 +95,12 @@ impl Name {
 }
 
 impl Default for Name {
-    /// The name `_`, which stands in the unused places of an array of names.
+    /// The name `_`. It fills the unused places of an `ArrayVec`. A text may have this name too.
     fn default() -> Name
         ensures value { result ≡ 95 ∷ [] }
     {
         let mut bytes = ArrayVec::new();
-        bytes.push(b'_');
+        bytes.push(UNDERSCORE);
         Name { bytes }
     }
 }

@@ -1,17 +1,12 @@
+//! Replies and verdicts, and the world that a run begins with.
 use crate::calls::Call;
 use crate::declared_tensors::Decls;
-use crate::lists::Listed;
+use crate::lists::List;
 use crate::names::Name;
-use crate::places::Coords;
-
-/// The loaded lines of a tensor, in their order: coordinates and value.
-pub type Pairs = Listed<(Coords, u64)>;
-
-/// Cells and their values, ascending by coordinates and without zeros.
-pub type Nonzeros = Listed<(Coords, u64)>;
+use crate::pairs::{Nonzeros, Pairs};
 
 /// For each tensor, by number, its loaded lines.
-pub type Base = Listed<Pairs>;
+pub type Base = List<Pairs>;
 
 /// What a call that was made answers.
 #[derive(Debug, Drop, PartialEq, Eq)]
@@ -41,9 +36,9 @@ pub enum Refusal {
     NotWhole,
     /// The value isn't from -2^63 to 2^64 - 1.
     TooLarge,
-    /// The variable has another dimension where it stands next than where it stood first.
+    /// The variable has another dimension here than where it was first.
     Dimension { var: Name, first: u32, second: u32 },
-    /// The variable stands twice on the left side or in one access.
+    /// The variable is twice on the left side or in one access.
     Repeated { var: Name },
     /// The term has no access.
     Access { term: u32 },
@@ -51,7 +46,7 @@ pub enum Refusal {
     Uncovered { term: u32, var: Name },
 }
 
-/// What a line of a script comes to.
+/// The result of judging a line of a script. It has 80 bytes.
 #[derive(Debug, Drop)]
 pub enum Verdict {
     /// The line asks for this call.
@@ -60,11 +55,11 @@ pub enum Verdict {
     Refused(Refusal),
 }
 
-/// A session's script: the verdict on line n stands at place n - 1.
-pub type Verdicts = Listed<Verdict>;
+/// A session's script: the verdict on line n is at index n - 1.
+pub type Verdicts = List<Verdict>;
 
-/// The scripts of all sessions: that of session s stands at place s - 1.
-pub type Scripts = Listed<Verdicts>;
+/// The scripts of all sessions: that of session s is at index s - 1.
+pub type Scripts = List<Verdicts>;
 
 /// What a run begins with.
 #[derive(Debug, Drop)]

@@ -1,5 +1,7 @@
+//! Statements in index notation, and their expressions.
 ghost use Rattle.std.specs.Prelude.{◌≡◌, IfOk};
 
+use crate::limits::MOST_VARIABLES;
 use crate::lists::NoMemory;
 use crate::names::Name;
 use crate::places::Vars;
@@ -24,13 +26,13 @@ pub enum Expr {
     Negate(Boxed<Expr>),
 }
 
-/// A statement in index notation, as `y(i) = A(i,j) * x(j)`. A `Vars` lists places in `vars`.
+/// A statement in index notation, as `y(i) = A(i,j) * x(j)`. A `Vars` lists indices into `vars`.
 #[derive(Debug, Drop)]
 pub struct Stmt {
     /// The name of what is answered. It may be that of a tensor, and means nothing.
     pub name: Name,
     /// The names of the variables by first appearance, left side first.
-    pub vars: ArrayVec<Name, 8>,
+    pub vars: ArrayVec<Name, MOST_VARIABLES>,
     /// The variables of the left side.
     pub left: Vars,
     /// The right side.
@@ -71,13 +73,11 @@ impl Expr {
     }
 }
 
+/// The expression in an allocation of its own.
 fn boxed(alloc: Global, expr: Expr) -> Result<Boxed<Expr>, NoMemory>
     ensures value { IfOk result (λ b. b ≡ expr) }
 {
-    match Boxed::new(alloc, expr) {
-        Ok(b) => Ok(b),
-        Err(_) => Err(NoMemory),
-    }
+    Ok(Boxed::new(alloc, expr)?)
 }
 
 impl Stmt {
@@ -95,7 +95,8 @@ impl Stmt {
     }
 }
 
-fn names_copied(names: &ArrayVec<Name, 8>) -> ArrayVec<Name, 8>
+/// Equal names. It takes no memory.
+fn names_copied(names: &ArrayVec<Name, MOST_VARIABLES>) -> ArrayVec<Name, MOST_VARIABLES>
     ensures value { result.items ≡ names.now.items }
 {
     let mut vars = ArrayVec::new();

@@ -1,10 +1,11 @@
+//! A counter that takes no space.
 ghost use Rattle.std.specs.Prelude.{◌≡◌, ◌+◌, ◌<◌};
 
 use std::marker::Model;
 use std::sync::ledger::{Blank, Book, Ledger, Share};
 
-/// A count of ticks, which contracts see as their number. It holds no byte at run time, and a tick
-/// runs no code. What a tick stands for is the word of the function that takes the counter.
+/// A count of ticks, which contracts see as their number. It has no bytes, and a tick runs no code.
+/// The function that takes the counter says what a tick means.
 #[derive(Drop)]
 pub struct Steps<L: Ledger> {
     book: Book<L>,
@@ -22,7 +23,7 @@ impl<L: Ledger> Model for Steps<L> {
 }
 
 impl<L: Ledger> Steps<L> {
-    /// A counter that stands at 0, over a ledger that nobody has opened. It takes no memory. A
+    /// A counter at 0, over a ledger that nobody has opened. It takes no memory. A
     /// caller that was given no counter calls a function over `L` at `Brand` with `Blank::new(1)`,
     /// and opens one there.
     pub fn open(blank: Blank) -> Steps<L>

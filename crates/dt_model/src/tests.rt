@@ -1,15 +1,18 @@
+//! Facts that no clause says, each shown by a table or a run.
 ghost use Rattle.std.specs.Prelude.{◌≡◌, [], ◌∷◌, IfOk};
-ghost use Rattle.dt_model.specs.declared.declared_tensors.Schema.{Schema};
 ghost use Rattle.dt_model.specs.declared.declared_tensors.TensorDecl.{TensorDecl};
+ghost use Rattle.dt_model.specs.Flat.{flat_schema};
 
 use crate::calls::{Call, Cell, Entry, Journal, Turn, Update};
 use crate::declared_tensors::{Decls, Schema, TensorDecl};
 use crate::latches::{latch_count, latch_of};
-use crate::lists::Listed;
+use crate::lists::List;
 use crate::names::Name;
 use crate::places::{Coords, Vars};
+use crate::replies::Verdict;
 use crate::statements::{Expr, Stmt};
 use crate::steps::Steps;
+use crate::updates::Updates;
 use arrayvec::ArrayVec;
 use sqlite_items::Boxed;
 use std::alloc::Global;
@@ -56,22 +59,17 @@ fn coordinates_are_in_lexicographic_order(rt: HostRuntime) {
     assert!(rt; coords(&[1, 2]) == coords(&[1, 2]));
 }
 
-fn vector(alloc: Global, name: Name, schema: Name, root: Name, latches: u32) -> Result<Decls, Fail>
-    ensures value { let flat : Schema = record { name = schema; kinds = record { items = [] }; root = root } in
-        let tensor : TensorDecl = record { name = name; dims = 6186 ∷ []; formats = record { items = 0 ∷ [] }; latches = latches } in
-        IfOk result (λ d. d ≡ record { schemas = flat ∷ []; tensors = tensor ∷ [] }) }
+fn vector(alloc: Global, name: Name, latches: u32) -> Result<Decls, Fail>
+    ensures value { let tensor : TensorDecl = record { name = name; dims = 6186 ∷ []; formats = record { items = 0 ∷ [] }; latches = latches } in
+        IfOk result (λ d. d ≡ record { schemas = flat_schema ∷ []; tensors = tensor ∷ [] }) }
 {
     let mut dims = Coords::new();
     dims.push(6186);
     let mut formats = ArrayVec::new();
     formats.push(0);
-    let mut schemas = Listed::new(alloc);
-    schemas.push(Schema {
-        name: schema,
-        kinds: ArrayVec::new(),
-        root,
-    })?;
-    let mut tensors = Listed::new(alloc);
+    let mut schemas = List::new(alloc);
+    schemas.push(Schema::flat())?;
+    let mut tensors = List::new(alloc);
     tensors.push(TensorDecl {
         name,
         dims,
@@ -83,14 +81,10 @@ fn vector(alloc: Global, name: Name, schema: Name, root: Name, latches: u32) -> 
 
 #[test]
 fn last_coordinate_is_in_fiber_63(rt: HostRuntime) -> Result<(), Fail> {
-    let (Some(name), Some(schema), Some(root)) = (
-        Name::new(b"T"),
-        Name::new(b"flat"),
-        Name::new(b"flat"),
-    ) else {
+    let Some(name) = Name::new(b"T") else {
         return Err(Fail::from("not a name"));
     };
-    let decls = vector(rt.alloc(), name, schema, root, 64)?;
+    let decls = vector(rt.alloc(), name, 64)?;
     let mut at = Coords::new();
     at.push(6185);
     assert_eq!(rt; latch_of(&decls, &Cell { tensor: 0, at }), 63);
@@ -123,7 +117,7 @@ fn steps_hold_no_byte(rt: HostRuntime) {
 
 #[test]
 fn lists_and_journals_keep_what_is_pushed(rt: HostRuntime) -> Result<(), Fail> {
-    let mut values = Listed::new(rt.alloc());
+    let mut values = List::new(rt.alloc());
     for value in [7, 0, 18_446_744_073_709_551_615_u64] {
         values.push(value)?;
     }
@@ -146,6 +140,68 @@ fn lists_and_journals_keep_what_is_pushed(rt: HostRuntime) -> Result<(), Fail> {
     assert_eq!(rt; journal.len(), 1);
     assert_eq!(rt; journal.get(0).map(|entry| entry.turn), Some(turn));
     assert!(rt; journal.get(1).is_none());
+    Ok(())
+}
+
+#[test]
+fn a_set_is_entered(rt: HostRuntime) -> Result<(), Fail> {
+    let mut at = Coords::new();
+    at.push(4);
+    let set = Update::Set {
+        cell: Cell { tensor: 0, at },
+        value: 7,
+    };
+    let call = Call::Batch(Updates::of_one(rt.alloc(), set));
+    let mut journal = Journal::with_room(rt.alloc(), 1)?;
+    journal.push(Entry {
+        turn: Turn {
+            session: 1,
+            number: 1,
+        },
+        call,
+    });
+    assert_eq!(rt; journal.len(), 1);
+    Ok(())
+}
+
+#[test]
+fn what_there_is_many_of_is_small(rt: HostRuntime) {
+    assert_eq!(rt; size_of::<Coords>(), 36);
+    assert_eq!(rt; size_of::<Cell>(), 40);
+    assert_eq!(rt; size_of::<Update>(), 56);
+    assert_eq!(rt; size_of::<Updates>(), 64);
+    assert_eq!(rt; size_of::<Call>(), 72);
+    assert_eq!(rt; size_of::<Entry>(), 80);
+    assert_eq!(rt; size_of::<Verdict>(), 80);
+}
+
+#[test]
+fn updates_keep_what_is_pushed(rt: HostRuntime) -> Result<(), Fail> {
+    let mut updates = Updates::new(rt.alloc());
+    assert_eq!(rt; updates.len(), 0);
+    for value in [3, 0, 18_446_744_073_709_551_615_u64] {
+        let at = coords(&[1]);
+        updates.push(Update::Set {
+            cell: Cell { tensor: 2, at },
+            value,
+        })?;
+    }
+    let copied = updates.copy(rt.alloc())?;
+    let rows = [
+        (0, Some(3)),
+        (1, Some(0)),
+        (2, Some(18_446_744_073_709_551_615)),
+        (3, None),
+    ];
+    for (index, want) in rows {
+        assert_eq!(rt;
+            copied.get(index).map(|update| match update {
+                Update::Set { value, .. } => *value,
+                Update::Add { .. } => 1,
+            }),
+            want
+        );
+    }
     Ok(())
 }
 
@@ -194,6 +250,7 @@ fn is_right_side(expr: &Expr) -> bool {
 fn is_product(call: &Call) -> bool {
     match call {
         Call::Query(stmt) => {
+            let stmt = stmt.get();
             stmt.name.bytes() == b"y".as_slice()
                 && stmt.vars.len() == 1
                 && stmt.vars.iter().all(|name| name.bytes() == b"i".as_slice())
@@ -210,7 +267,7 @@ fn copies_are_equal(rt: HostRuntime) -> Result<(), Fail> {
     let (Some(x), Some(y), Some(i)) = (Name::new(b"x"), Name::new(b"y"), Name::new(b"i")) else {
         return Err(Fail::from("not a name"));
     };
-    let mut updates = Listed::new(alloc);
+    let mut updates = Updates::new(alloc);
     updates.push(Update::Add {
         cell: Cell {
             tensor: 1,
@@ -223,11 +280,11 @@ fn copies_are_equal(rt: HostRuntime) -> Result<(), Fail> {
             session: 1,
             number: 1,
         },
-        call: Call::Query(product(alloc, x, y, i)?),
+        call: Call::query(alloc, product(alloc, x, y, i)?)?,
     };
     let copied = entry.copy(alloc)?;
     assert_eq!(rt; copied.turn, entry.turn);
     assert!(rt; is_product(&copied.call));
-    assert_eq!(rt; updates.copy(alloc)?, updates);
+    assert_eq!(rt; updates.copy(alloc)?.as_slice(), updates.as_slice());
     Ok(())
 }

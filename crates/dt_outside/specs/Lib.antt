@@ -1,3 +1,3 @@
 pub mod Faults
-pub mod Held
-pub mod Values
+pub mod MemoryFiles
+pub mod States

@@ -1,8 +1,9 @@
+//! Gates: where a test can hold a call.
 use dt_model::Turn;
 
 /// A place that calls pass, at which a test can hold them.
 pub trait Gate {
-    /// It is told of a call's turn when all fibers of the call are held and the journal's latch isn't
+    /// Is called with a call's turn when all fibers of the call are held and the journal's latch isn't
     /// yet taken.
     fn held(&self, turn: Turn);
 }

@@ -1,31 +1,34 @@
-ghost use Rattle.std.specs.Prelude.{if◌then◌else◌, nat_eq, ◌≡◌, ◌≢◌, ◌↔◌, ◌⊎◌, List, ℕ, ◌+◌, ◌-◌, ◌^◌, ◌≤◌, [], min, length, Some, None, Err, OnOk, OnErr, Contains, IsNone, IfSome};
+//! Shelves of files in memory: one that fails where a test asks it to, and one that never fails.
+ghost use Rattle.std.specs.Prelude.{◌≡◌, ◌≢◌, ◌↔◌, ◌⊎◌, ◌+◌, ◌-◌, ◌^◌, ◌≤◌, [], min, length, Some, None, Err, OnOk, OnErr, Contains, IsNone, IfSome};
+ghost use Rattle.dt_model.specs.declared.limits.TheConstants.{FILE_NAME_LIMIT};
+ghost use Rattle.dt_model.specs.FileNames.{HasNameLength};
 ghost use Rattle.dt_outside.specs.Faults.{IsFetch};
-ghost use Rattle.std.specs.Cmp.Lexicographic.{pointwise};
-ghost use Rattle.dt_outside.specs.Held.{held_under, bytes_under};
+ghost use Rattle.dt_outside.specs.States.{shelf_state, sure_state};
+ghost use Rattle.dt_outside.specs.MemoryFiles.{find_file, bytes_under, PutsFile};
 
-use crate::held::{HeldFile, fill, find, put};
+use crate::memory_files::{MemFile, fill, find, put};
 use crate::shelves::{FetchFault, Shelf};
 use arrayvec::ArrayVec;
-use dt_model::NoMemory;
+use dt_model::{FILE_NAME_LIMIT, NoMemory};
 use std::alloc::Global;
 use std::marker::Model;
 
-/// A shelf of files in memory that fails at the listed fetches and at names that it doesn't hold.
-/// Contracts see it as a `MemShelfValue`.
+/// A shelf of files in memory that fails at the listed fetches and at names that it doesn't have.
+/// Contracts see it as a `MemShelfState`.
 #[derive(Drop)]
 pub struct MemShelf {
     alloc: Global,
-    files: Vec<HeldFile>,
+    files: Vec<MemFile>,
     fails: Vec<u64>,
     calls: u64,
     faults: u64,
-    blamed: ArrayVec<u8, 255>,
+    blamed: ArrayVec<u8, FILE_NAME_LIMIT>,
 }
 
 impl Model for MemShelf {
-    ghost use Rattle.dt_outside.specs.Values.{MemShelfValue};
+    ghost use Rattle.dt_outside.specs.States.{MemShelfState};
 
-    ghost Value = { MemShelfValue };
+    ghost Value = { MemShelfState };
 
     ghost view = { λ s. record { files = s.files.items; fails = s.fails.items; calls = s.calls; faults = s.faults; blamed = s.blamed.items } };
 }
@@ -48,17 +51,17 @@ impl MemShelf {
 
     /// Puts a file on the shelf; one that has the name already is covered by it.
     pub fn add(&mut self, name: &str, bytes: &[u8]) -> Result<(), NoMemory>
-        ensures ok { OnOk result ((other : List ℕ) → held_under self.new.files other ≡ (if pointwise nat_eq name.now other then Some bytes.now else held_under self.old.files other)) }
+        ensures ok { OnOk result (PutsFile self.old.files self.new.files name.now bytes.now) }
         ensures err { OnErr result (self.new.files ≡ self.old.files) }
         ensures rest { self.new ≡ record self.old { files = self.new.files } }
     {
         put(self.alloc, &mut self.files, name.as_bytes(), bytes)
     }
 
-    /// What this fetch gives, unless it is listed or the name isn't there.
+    /// The file that this fetch gives, unless the fetch is listed or the name isn't there.
     fn found(&self, name: &[u8]) -> Option<&[u8]>
-        ensures none { IsNone result ↔ (Contains self.now.fails self.now.calls ⊎ (held_under self.now.files name.now ≡ None)) }
-        ensures some { IfSome result (λ bytes. held_under self.now.files name.now ≡ Some bytes.now) }
+        ensures none { IsNone result ↔ (Contains self.now.fails self.now.calls ⊎ (find_file self.now.files name.now ≡ None)) }
+        ensures some { IfSome result (λ bytes. find_file self.now.files name.now ≡ Some bytes.now) }
     {
         if self.fails.contains(&self.calls) {
             return None;
@@ -68,21 +71,17 @@ impl MemShelf {
 }
 
 impl Shelf for MemShelf {
-    ghost files = { λ s. Some (bytes_under s.files) };
-
-    ghost faults = { λ s. s.faults };
-
-    ghost blamed = { λ s. s.blamed };
+    ghost state = { λ s. shelf_state s };
 
     fn fetch(&mut self, name: &str, limit: u64, into: &mut Vec<u8>) -> Result<(), FetchFault>
         requires fresh { into.old.items ≡ [] }
-        requires named { (1 ≤ length name.now) × (length name.now ≤ 255) }
-        ensures same_files { Some (bytes_under self.new.files) ≡ Some (bytes_under self.old.files) }
-        ensures answer { IsFetch (Some (bytes_under self.old.files)) name.now limit self.old.faults self.new.faults self.old.blamed self.new.blamed result into.new.items }
+        requires named { HasNameLength name.now }
+        ensures answer { IsFetch (shelf_state self.old) (shelf_state self.new) name.now limit result into.new.items }
         ensures calls { self.new.calls ≡ min (self.old.calls + 1) (2 ^ 64 - 1) }
         ensures given { (self.new.files ≡ self.old.files) × (self.new.fails ≡ self.old.fails) }
-        // It fails exactly at the listed calls and the names that it doesn't hold.
-        ensures failed { (result ≡ Err FetchFault.Failed) ↔ (Contains self.old.fails self.new.calls ⊎ (held_under self.old.files name.now ≡ None)) }
+        ensures counted { result ≡ Err FetchFault.Failed → self.new.faults ≡ min (self.old.faults + 1) (2 ^ 64 - 1) }
+        // It fails exactly at the listed calls and at names that it doesn't have.
+        ensures failed { (result ≡ Err FetchFault.Failed) ↔ (Contains self.old.fails self.new.calls ⊎ (find_file self.old.files name.now ≡ None)) }
     {
         self.calls = self.calls.saturating_add(1);
         match self.found(name.as_bytes()) {
@@ -97,8 +96,8 @@ impl Shelf for MemShelf {
 }
 
 /// The bytes of a name.
-pub(crate) fn name_of(name: &str) -> ArrayVec<u8, 255>
-    requires in_range { length name.now ≤ 255 }
+pub(crate) fn name_of(name: &str) -> ArrayVec<u8, FILE_NAME_LIMIT>
+    requires in_range { length name.now ≤ FILE_NAME_LIMIT }
     ensures value { result.items ≡ name.now }
 {
     match ArrayVec::try_from(name.as_bytes()) {
@@ -107,19 +106,19 @@ pub(crate) fn name_of(name: &str) -> ArrayVec<u8, 255>
     }
 }
 
-/// A shelf of files in memory that never fails: a name that it doesn't hold is an empty file.
+/// A shelf of files in memory that never fails: a name that it doesn't have is an empty file.
 /// Contracts see it as the list of its files, in the order in which they came.
 #[derive(Drop)]
 pub struct SureShelf {
     alloc: Global,
-    files: Vec<HeldFile>,
+    files: Vec<MemFile>,
 }
 
 impl Model for SureShelf {
     ghost use Rattle.std.specs.Prelude.{List};
-    ghost use Rattle.dt_outside.specs.declared.held.HeldFile.{HeldFile};
+    ghost use Rattle.dt_outside.specs.declared.memory_files.MemFile.{MemFile};
 
-    ghost Value = { List HeldFile };
+    ghost Value = { List MemFile };
 
     ghost view = { λ s. s.files.items };
 }
@@ -137,7 +136,7 @@ impl SureShelf {
 
     /// Puts a file on the shelf; one that has the name already is covered by it.
     pub fn add(&mut self, name: &str, bytes: &[u8]) -> Result<(), NoMemory>
-        ensures ok { OnOk result ((other : List ℕ) → held_under self.new other ≡ (if pointwise nat_eq name.now other then Some bytes.now else held_under self.old other)) }
+        ensures ok { OnOk result (PutsFile self.old self.new name.now bytes.now) }
         ensures err { OnErr result (self.new ≡ self.old) }
     {
         put(self.alloc, &mut self.files, name.as_bytes(), bytes)
@@ -145,17 +144,12 @@ impl SureShelf {
 }
 
 impl Shelf for SureShelf {
-    ghost files = { λ s. Some (bytes_under s) };
-
-    ghost faults = { λ s. 0 };
-
-    ghost blamed = { λ s. [] };
+    ghost state = { λ s. sure_state s };
 
     fn fetch(&mut self, name: &str, limit: u64, into: &mut Vec<u8>) -> Result<(), FetchFault>
         requires fresh { into.old.items ≡ [] }
-        requires named { (1 ≤ length name.now) × (length name.now ≤ 255) }
-        ensures same_files { Some (bytes_under self.new) ≡ Some (bytes_under self.old) }
-        ensures answer { IsFetch (Some (bytes_under self.old)) name.now limit 0 0 [] [] result into.new.items }
+        requires named { HasNameLength name.now }
+        ensures answer { IsFetch (sure_state self.old) (sure_state self.new) name.now limit result into.new.items }
         ensures no_failure { result ≢ Err FetchFault.Failed }
     {
         match find(&self.files, name.as_bytes()) {

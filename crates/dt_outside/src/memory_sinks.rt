@@ -1,5 +1,6 @@
+//! Sinks in memory: one that fails where a test asks it to, and one that never fails.
 ghost use Rattle.std.specs.Prelude.{◌≡◌, ◌↔◌, ◌⊎◌, ◌+◌, ◌-◌, ◌^◌, ◌<◌, ◌≤◌, ◌++◌, [], min, max, take, length, Some, None, IsTrue, IsErr, MatchResult, OnOk, OnErr, IfOk, Contains, false, true, if◌then◌else◌, Ok, ◌||◌, nat_lt};
-ghost use Rattle.dt_outside.specs.Faults.{Rose, Appended};
+ghost use Rattle.dt_outside.specs.Faults.{HasRisen, IsAppended};
 
 use crate::sinks::{Sink, SinkFailed};
 use dt_model::NoMemory;
@@ -7,7 +8,7 @@ use std::alloc::Global;
 use std::marker::Model;
 
 /// A sink in memory that takes a few bytes at a time, fails at the listed calls and where no room is
-/// left, and tells what was written. Contracts see it as a `MemSinkValue`.
+/// left, and exposes what was written. Contracts see it as a `MemSinkState`.
 #[derive(Drop)]
 pub struct MemSink {
     bytes: Vec<u8>,
@@ -20,9 +21,9 @@ pub struct MemSink {
 
 impl Model for MemSink {
     ghost use Rattle.std.specs.Prelude.{◌+◌, ◌≤◌, vec_len, vec_capacity};
-    ghost use Rattle.dt_outside.specs.Values.{MemSinkValue};
+    ghost use Rattle.dt_outside.specs.States.{MemSinkState};
 
-    ghost Value = { MemSinkValue };
+    ghost Value = { MemSinkState };
 
     ghost view = { λ s. record { bytes = s.bytes.items; spare = s.spare; most = s.most; fails = s.fails.items; calls = s.calls; faults = s.faults } };
 
@@ -58,13 +59,9 @@ impl MemSink {
         if n <= self.spare {
             return Ok(());
         }
-        match self.bytes.reserve(n) {
-            Ok(()) => {
-                self.spare = n;
-                Ok(())
-            }
-            Err(_) => Err(NoMemory),
-        }
+        self.bytes.reserve(n)?;
+        self.spare = n;
+        Ok(())
     }
 
     /// Whether this call fails.
@@ -94,7 +91,8 @@ impl Sink for MemSink {
         ensures some { IfOk result (λ n. 1 ≤ n) }
         ensures bytes { IfOk result (λ n. self.new.bytes ≡ self.old.bytes ++ take n piece.now) }
         ensures quiet { OnOk result (self.new.faults ≡ self.old.faults) }
-        ensures risen { OnErr result (Rose self.old.faults self.new.faults) }
+        ensures risen { OnErr result (HasRisen self.old.faults self.new.faults) }
+        ensures counted { OnErr result (self.new.faults ≡ min (self.old.faults + 1) (2 ^ 64 - 1)) }
         ensures kept { OnErr result (self.new.bytes ≡ self.old.bytes) }
         ensures calls { self.new.calls ≡ min (self.old.calls + 1) (2 ^ 64 - 1) }
         ensures room { MatchResult result (λ n. self.new.spare + n ≡ self.old.spare) (λ _. self.new.spare ≡ self.old.spare) }
@@ -118,8 +116,8 @@ impl Sink for MemSink {
     }
 }
 
-/// A sink in memory that never fails: it keeps the first bytes, and tells what was written while it
-/// kept all. Contracts see it as a `SureSinkValue`.
+/// A sink in memory that never fails: it keeps the first bytes, and exposes what was written while it
+/// kept all. Contracts see it as a `SureSinkState`.
 #[derive(Drop)]
 pub struct SureSink {
     bytes: Vec<u8>,
@@ -129,9 +127,9 @@ pub struct SureSink {
 
 impl Model for SureSink {
     ghost use Rattle.std.specs.Prelude.{◌+◌, ◌≤◌, vec_len, vec_capacity};
-    ghost use Rattle.dt_outside.specs.Values.{SureSinkValue};
+    ghost use Rattle.dt_outside.specs.States.{SureSinkState};
 
-    ghost Value = { SureSinkValue };
+    ghost Value = { SureSinkState };
 
     ghost view = { λ s. record { bytes = s.bytes.items; spare = s.spare; cut = s.cut } };
 
@@ -143,14 +141,12 @@ impl SureSink {
     pub fn new(alloc: Global, n: usize) -> Result<SureSink, NoMemory>
         ensures fresh { IfOk result (λ s. (s.bytes ≡ []) × (s.spare ≡ n) × (s.cut ≡ false)) }
     {
-        match Vec::with_capacity(alloc, n) {
-            Ok(bytes) => Ok(SureSink {
-                bytes,
-                spare: n,
-                cut: false,
-            }),
-            Err(_) => Err(NoMemory),
-        }
+        let bytes = Vec::with_capacity(alloc, n)?;
+        Ok(SureSink {
+            bytes,
+            spare: n,
+            cut: false,
+        })
     }
 
     /// The bytes that were kept.

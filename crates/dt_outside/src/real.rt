@@ -1,19 +1,21 @@
+//! The files of the system and its standard output.
 ghost use Rattle.std.specs.Prelude.{◌≡◌, [], None};
 
 use crate::memory_shelves::name_of;
 use crate::shelves::{FetchFault, Shelf};
 use crate::sinks::{Sink, SinkFailed};
 use arrayvec::ArrayVec;
+use dt_model::FILE_NAME_LIMIT;
 use std::fs::{File, Files};
 use std::io::{ErrorKind, Print, Read};
 
 /// The files of the system, under names that are read from the current folder on. A name that isn't
-/// there, a folder and a name with a NUL byte are failed fetches. It tells no content.
+/// there and a folder are failed fetches. It exposes no content.
 #[derive(Drop)]
 pub struct FileShelf<R> {
     rt: R,
     faults: u64,
-    blamed: ArrayVec<u8, 255>,
+    blamed: ArrayVec<u8, FILE_NAME_LIMIT>,
 }
 
 impl<R> FileShelf<R> {
@@ -30,11 +32,7 @@ impl<R> FileShelf<R> {
 }
 
 impl<R: Files> Shelf for FileShelf<R> {
-    ghost files = { λ s. None };
-
-    ghost faults = { λ s. s.faults };
-
-    ghost blamed = { λ s. s.blamed.items };
+    ghost state = { λ s. record { files = None; faults = s.faults; blamed = s.blamed.items } };
 
     fn fetch(&mut self, name: &str, limit: u64, into: &mut Vec<u8>) -> Result<(), FetchFault> {
         match read_up_to(&self.rt, name, limit, into) {
@@ -64,7 +62,7 @@ fn read_up_to<R: Files>(
     }
 }
 
-/// The standard output. It tells no content.
+/// The standard output. It exposes no content.
 #[derive(Drop)]
 pub struct StreamSink<R> {
     rt: R,

@@ -1,37 +1,34 @@
-ghost use Rattle.std.specs.Prelude.{◌≡◌, ℕ, ◌≤◌, ◌<◌, List, [], length, Option, Some};
-ghost use Rattle.dt_outside.specs.Faults.{IsFetch};
+//! Shelves: where files are read from.
+ghost use Rattle.std.specs.Prelude.{◌≡◌, []};
+ghost use Rattle.dt_model.specs.FileNames.{HasNameLength};
+ghost use Rattle.dt_outside.specs.Faults.{ShelfState, IsFetch};
 
 use thiserror::Error;
 
-/// Why a file did not come.
+/// Why a fetch gives no file.
 #[derive(Clone, Copy, Debug, PartialEq, Eq, Error)]
 pub enum FetchFault {
-    /// The shelf failed: the name isn't there, or it can't be read.
-    #[error("no file was read under the name, which has to be that of a file that can be read")]
+    /// The shelf failed: the name isn't there, or its file can't be read.
+    #[error("the name is not that of a file that can be read")]
     Failed,
     /// The file has more bytes than the limit.
     #[error("the file has more bytes than the limit allows")]
     TooLarge,
-    /// No memory was found for the bytes.
-    #[error("no memory was found, where the file's bytes need some")]
+    /// Out of memory.
+    #[error("out of memory, which the bytes of a file need")]
     NoMemory,
 }
 
-/// A source of files under names. `files` gives the bytes under each name, where the shelf tells
-/// them; `faults` counts what failed, stands still at 2^64 - 1 and never falls; `blamed` is the name
-/// of the last fetch that failed.
+/// A source of files under names. Contracts see it as a `ShelfState`: the bytes under each name, if the
+/// shelf exposes them; the count of the fetches that failed, which never falls and ends at 2^64 - 1; and
+/// the name of the last one that failed.
 pub trait Shelf {
-    ghost files: { Self → Option (List ℕ → List ℕ) };
+    ghost state: { Self → ShelfState };
 
-    ghost faults: { Self → ℕ };
-
-    ghost blamed: { Self → List ℕ };
-
-    /// Reads the file under a name of 1 to 255 bytes into an empty buffer, if it has at most
-    /// `limit` bytes. After a refusal the buffer may hold any bytes.
+    /// Reads the file under a name into an empty buffer, if it has at most `limit` bytes. After a
+    /// refusal the buffer may hold any bytes.
     fn fetch(&mut self, name: &str, limit: u64, into: &mut Vec<u8>) -> Result<(), FetchFault>
         requires fresh { into.old.items ≡ [] }
-        requires named { (1 ≤ length name.now) × (length name.now ≤ 255) }
-        ensures same_files { files self.new ≡ files self.old }
-        ensures answer { IsFetch (files self.old) name.now limit (faults self.old) (faults self.new) (blamed self.old) (blamed self.new) result into.new.items };
+        requires named { HasNameLength name.now }
+        ensures answer { IsFetch (state self.old) (state self.new) name.now limit result into.new.items };
 }

@@ -1,9 +1,57 @@
+//! What no clause says: that memory is found, and what real files and streams do.
 use crate::{
     FetchFault, FileShelf, MemShelf, MemSink, Shelf, Sink, SinkFailed, StreamSink, SureShelf,
     SureSink, write_all,
 };
+use std::cell::RefCell;
+use std::fmt::Display;
 use std::fs;
+use std::io::{self, ErrorKind, Print};
 use std::test::Fail;
+
+/// A standard output in memory, which takes at most 4 bytes a write.
+#[derive(Drop)]
+struct Tape<'a> {
+    written: &'a RefCell<Vec<u8>>,
+}
+
+impl Print for Tape<'_> {
+    fn print<D: Display + Drop>(&self, _value: D) -> io::Result<()> {
+        Err(ErrorKind::Unsupported.into())
+    }
+
+    fn println<D: Display + Drop>(&self, _value: D) -> io::Result<()> {
+        Err(ErrorKind::Unsupported.into())
+    }
+
+    fn write_all(&self, _bytes: &[u8]) -> io::Result<()> {
+        Err(ErrorKind::Unsupported.into())
+    }
+
+    fn write_some(&self, bytes: &[u8]) -> io::Result<usize> {
+        let taken = bytes.len().min(4);
+        match self.written.try_borrow_mut() {
+            Ok(mut written) => match written.extend_from_slice(&bytes[..taken]) {
+                Ok(()) => Ok(taken),
+                Err(_) => Err(ErrorKind::OutOfMemory.into()),
+            },
+            Err(_) => Err(ErrorKind::Other.into()),
+        }
+    }
+}
+
+#[test]
+fn a_file_is_copied_to_a_sink(rt: HostRuntime) -> Result<(), Fail> {
+    let mut shelf = MemShelf::new(rt.alloc(), Vec::new(rt.alloc()));
+    assert!(rt; shelf.add("script", b"get v 1\n").is_ok());
+    let mut sink = MemSink::new(rt.alloc(), 3, Vec::new(rt.alloc()));
+    assert!(rt; sink.room(100).is_ok());
+    let mut text = Vec::new(rt.alloc());
+    assert_eq!(rt; shelf.fetch("script", 100, &mut text), Ok(()));
+    assert_eq!(rt; write_all(&mut sink, &text), Ok(()));
+    assert_eq!(rt; sink.bytes(), b"get v 1\n".as_slice());
+    Ok(())
+}
 
 #[test]
 fn listed_fetches_and_unknown_names_fail(rt: HostRuntime) -> Result<(), Fail> {
@@ -83,6 +131,16 @@ fn a_real_file_is_fetched_up_to_the_limit(rt: HostRuntime) -> Result<(), Fail> {
     text.clear();
     assert_eq!(rt; shelf.fetch(name, 9, &mut text), Err(FetchFault::Failed));
     Ok(())
+}
+
+#[test]
+fn a_stream_has_what_was_written(rt: HostRuntime) {
+    let written = RefCell::new(Vec::new(rt.alloc()));
+    let mut sink = StreamSink::new(Tape { written: &written });
+    assert_eq!(rt; write_all(&mut sink, b"1 value 7\n"), Ok(()));
+    assert_eq!(rt; sink.write_some(b"2 ok\n"), Ok(4));
+    let read_back = written.into_inner();
+    assert_eq!(rt; read_back.as_slice(), b"1 value 7\n2 ok".as_slice());
 }
 
 #[test]

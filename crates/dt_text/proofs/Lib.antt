@@ -1,5 +1,12 @@
-pub mod DigitLemmas
-pub mod Cuts
-pub mod SpanLemmas
-pub mod CutLemmas
-pub mod ValueLemmas
+pub mod PartsLemmas
+pub mod LinePartsLemmas
+pub mod LineSpansLemmas
+pub mod WordSpansLemmas
+pub mod ContentLemmas
+pub mod NumeralsLemmas
+pub mod LexerLemmas
+pub mod LexerEnds
+pub mod ScaledLemmas
+pub mod PointLemmas
+pub mod ValuesLemmas
+pub mod WrittenLemmas

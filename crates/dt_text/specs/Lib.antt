@@ -1,2 +1,5 @@
+pub mod Content
+pub mod Lexer
 pub mod Numerals
 pub mod Spans
+pub mod Values

@@ -1,12 +1,18 @@
-ghost use Rattle.std.specs.Prelude.{◌≡◌, ◌↔◌, ◌≤◌, ◌<◌, ◌^◌, ◌∷◌, ◌++◌, ⊤, min, OnOk, OnErr, Option, Some, None, MatchOption, MatchResult};
+//! Numerals: indices, values as they are written, and the digits that they share.
+ghost use Rattle.std.specs.Prelude.{◌≡◌, ◌↔◌, ◌≤◌, ◌<◌, ◌^◌, ◌∷◌, ◌++◌, ⊤, min, OnOk, OnErr, Option, Some, None, Ok, MatchOption, MatchResult};
 ghost use Rattle.std.specs.Option.{option_map};
 ghost use Rattle.std.specs.Fmt.{decimal};
+ghost use Rattle.dt_model.specs.declared.limits.TheConstants.{MINUS};
 ghost use Rattle.dt_model.specs.Texts.{value_word, number_of};
+ghost use Rattle.dt_text.specs.Values.{value_of};
 ghost use Rattle.dt_text.specs.Numerals.{index_in_range, whole_of, positive_in_range, negative_in_range};
 
-use dt_model::NoMemory;
+use dt_model::{MINUS, NoMemory};
 use itoa::Buffer;
 use thiserror::Error;
+
+/// The byte that a positive numeral may begin with.
+pub(crate) const PLUS: u8 = b'+';
 
 /// Why a word is no index.
 #[derive(Clone, Copy, Debug, PartialEq, Eq, Error)]
@@ -19,24 +25,21 @@ pub enum IndexFault {
     Range,
 }
 
-/// Appends a piece. Where no memory is found, the text is as before.
+/// Appends a piece. Out of memory, the text is as before.
 pub fn append(into: &mut Vec<u8>, piece: &[u8]) -> Result<(), NoMemory>
     ensures ok { OnOk result (into.new.items ≡ into.old.items ++ piece.now) }
     ensures err { OnErr result (into.new.items ≡ into.old.items) }
 {
-    match into.extend_from_slice(piece) {
-        Ok(()) => Ok(()),
-        Err(_) => Err(NoMemory),
-    }
+    into.extend_from_slice(piece)?;
+    Ok(())
 }
 
+/// Appends a minus and a number's digits. Out of memory, the text is as before.
 fn append_negative(into: &mut Vec<u8>, digits: &[u8]) -> Result<(), NoMemory>
-    ensures ok { OnOk result (into.new.items ≡ into.old.items ++ 45 ∷ digits.now) }
+    ensures ok { OnOk result (into.new.items ≡ into.old.items ++ MINUS ∷ digits.now) }
     ensures err { OnErr result (into.new.items ≡ into.old.items) }
 {
-    if into.push(b'-').is_err() {
-        return Err(NoMemory);
-    }
+    into.push(MINUS)?;
     match append(into, digits) {
         Ok(()) => Ok(()),
         Err(NoMemory) => {
@@ -47,13 +50,12 @@ fn append_negative(into: &mut Vec<u8>, digits: &[u8]) -> Result<(), NoMemory>
 }
 
 /// Appends the text of a value modulo 2^64: below 2^63 its decimal, else the negative decimal of the
-/// value less 2^64. It has no leading zeros, and at most 20 bytes. Where no memory is found, the text
-/// is as before.
+/// value less 2^64. It has no leading zeros, and at most 20 bytes. Out of memory, the text is as before.
 pub fn write_value(value: u64, into: &mut Vec<u8>) -> Result<(), NoMemory>
     ensures ok { OnOk result (into.new.items ≡ into.old.items ++ value_word value) }
     ensures err { OnErr result (into.new.items ≡ into.old.items) }
     // What is written is read back as the value.
-    ensures reads_back { whole_of (value_word value) ≡ Some value }
+    ensures reads_back { value_of (value_word value) ≡ Ok value }
 {
     let mut buffer = Buffer::new();
     if value < 1 << 63 {
@@ -63,7 +65,7 @@ pub fn write_value(value: u64, into: &mut Vec<u8>) -> Result<(), NoMemory>
     }
 }
 
-/// Appends a number in decimal, without leading zeros. Where no memory is found, the text is as before.
+/// Appends a number in decimal, without leading zeros. Out of memory, the text is as before.
 pub fn write_number(number: u32, into: &mut Vec<u8>) -> Result<(), NoMemory>
     ensures ok { OnOk result (into.new.items ≡ into.old.items ++ decimal number) }
     ensures err { OnErr result (into.new.items ≡ into.old.items) }
@@ -72,11 +74,11 @@ pub fn write_number(number: u32, into: &mut Vec<u8>) -> Result<(), NoMemory>
     append(into, buffer.format(number).as_bytes())
 }
 
-/// Where the number of a word stands still: past every number that a numeral may write.
-const MOST: u128 = 1 << 64;
+/// Where the number of a word is capped: above every number that a numeral may write.
+pub(crate) const CAP: u128 = 1 << 64;
 
 /// The number of a word of one or more decimal digits, or 2^64 where it is more.
-fn digits(word: &[u8]) -> Option<u128>
+pub(crate) fn digits(word: &[u8]) -> Option<u128>
     ensures value { result ≡ option_map (λ n. min n (2 ^ 64)) (number_of word.now) }
 {
     if word.is_empty() {
@@ -87,7 +89,7 @@ fn digits(word: &[u8]) -> Option<u128>
         if !byte.is_ascii_digit() {
             return None;
         }
-        number = (number * 10 + u128::from(*byte - b'0')).min(MOST);
+        number = (number * 10 + u128::from(*byte - b'0')).min(CAP);
     }
     Some(number)
 }
@@ -107,16 +109,16 @@ pub fn read_index(word: &[u8]) -> Result<u32, IndexFault>
 
 /// The value modulo 2^64 of an optional sign and one or more decimal digits, from -2^63 to 2^64 - 1;
 /// `None` for any other word and for a number out of range.
-#[tactic(auto, using(crate::proofs::DigitLemmas::capped_positive, crate::proofs::DigitLemmas::capped_negative))]
+#[tactic(auto, using(crate::proofs::NumeralsLemmas::positive_in_range_capped, crate::proofs::NumeralsLemmas::negative_in_range_capped))]
 pub fn read_whole(word: &[u8]) -> Option<u64>
     ensures value { result ≡ whole_of word.now }
 {
     match word {
         [] => None,
         [first, rest @ ..] => {
-            if *first == b'-' {
+            if *first == MINUS {
                 negative(digits(rest))
-            } else if *first == b'+' {
+            } else if *first == PLUS {
                 positive(digits(rest))
             } else {
                 positive(digits(word))
@@ -125,7 +127,8 @@ pub fn read_whole(word: &[u8]) -> Option<u64>
     }
 }
 
-fn negative(number: Option<u128>) -> Option<u64>
+/// The value modulo 2^64 of the negative of a number, where it isn't below -2^63.
+pub(crate) fn negative(number: Option<u128>) -> Option<u64>
     ensures value { result ≡ negative_in_range number }
 {
     match number {
@@ -134,11 +137,12 @@ fn negative(number: Option<u128>) -> Option<u64>
     }
 }
 
-fn positive(number: Option<u128>) -> Option<u64>
+/// The value of a number below 2^64.
+pub(crate) fn positive(number: Option<u128>) -> Option<u64>
     ensures value { result ≡ positive_in_range number }
 {
     match number {
-        Some(number) if number < MOST => Some(number as u64),
+        Some(number) if number < CAP => Some(number as u64),
         _ => None,
     }
 }

@@ -1,9 +1,9 @@
-pub mod FileNames
-pub mod Rows
-pub mod Manifest
+pub mod Commands
 pub mod Workload
-pub mod Lines
+pub mod Reached
+pub mod FaultTexts
 pub mod Outcome
-pub mod Stops
-pub mod Endings
+pub mod Headline
+pub mod Readings
+pub mod Gathering
 pub mod ScriptRun

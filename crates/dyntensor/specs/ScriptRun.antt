@@ -10,23 +10,26 @@ use Rattle.dt_model.specs.declared.replies.Verdict.TheVariants.{Accepted, Refuse
 use Rattle.dt_model.specs.declared.replies.World.{World}
 use Rattle.dt_model.specs.Report.{call_rows, line_rows}
 use Rattle.dt_model.specs.Texts.{text_of}
-use Rattle.dt_model.specs.Calls.{IsNoGet, IsWithin}
-use Rattle.dt_model.specs.Runs.{fold_of, call_of, reply_to, has_turn, Rises}
-use Rattle.sessions.specs.Running.{Running, IsRunOf, IsNoQuery}
+use Rattle.dt_model.specs.Calls.{IsNoGet}
+use Rattle.dt_model.specs.Runs.{contents_after, call_of, reply_to, has_turn, IsInScriptOrder, IsOrder, AllGets}
+use Rattle.dt_model.specs.Worlds.{IsValid}
+use Rattle.commit_core.specs.Orders.{IsCallOf}
+use Rattle.sessions.specs.RunState.{RunState, IsRunOf, IsNoQuery}
+use Rattle.script_read.specs.Sound.{AsksNoQuery}
 
 -- the entry of line n of session 1
 abbrev pub entry_at : ℕ → Call → Entry
 entry_at n call = record { turn = record { session = 1; number = n }; call = call }
 
 -- the call was made, and its reply is r
-pub record Makes (old new : Running) (n : ℕ) (call : Call) (r : Reply) : Type 0 where
+pub record Makes (old new : RunState) (n : ℕ) (call : Call) (r : Reply) : Type 0 where
   pub entries : new.entries ≡ old.entries ++ entry_at n call ∷ []
   pub last : new.last ≡ n
-  pub value : (w : World) → IsRunOf w old → reply_to w.decls (fold_of w old.entries) call ≡ r
+  pub value : (w : World) → IsRunOf w old → reply_to w.decls (contents_after w old.entries) call ≡ r
   pub run : (w : World) → IsRunOf w old → IsRunOf w new
 
--- a call that was made, or found no memory
-abbrev pub StepsTo : Running → Running → ℕ → Call → Option Reply → Type 0
+-- a call that was made, or was out of memory
+abbrev pub StepsTo : RunState → RunState → ℕ → Call → Option Reply → Type 0
 StepsTo old new n call o = MatchOption o ((new ≡ old) × IsNoGet call) (Makes old new n call)
 
 -- an entry of this world's one session, before line n
@@ -37,19 +40,31 @@ pub record IsEntryOf (w : World) (n : ℕ) (e : Entry) : Type 0 where
   pub called : call_of w 1 e.turn.number ≡ Some e.call
 
 -- i lines are done
-pub record IsSoFar (w : World) (i : ℕ) (run : Running) : Type 0 where
+pub record IsSoFar (w : World) (i : ℕ) (run : RunState) : Type 0 where
   pub now : IsRunOf w run
   pub entries : All (IsEntryOf w (i + 1)) run.entries
-  pub rising : AllPairs Rises run.entries
+  pub rising : AllPairs IsInScriptOrder run.entries
   pub last : run.last ≤ i
   pub gets : (k : ℕ) (cell : Cell) → k ≤ i → call_of w 1 k ≡ Some (Get cell) → has_turn run.entries 1 k ≡ true
 
--- a line that may be run over n tensors: a refused one, or a call of these tensors that is no query
-abbrev pub MayRun : ℕ → Verdict → Type 0
-MayRun n (Accepted call) = IsNoQuery call × IsWithin n call
-MayRun n (Refused r) = Unit {0}
+-- a line that may be run over tensors of these orders: a refused one, or a call of these tensors that is no query
+abbrev pub MayRun : List ℕ → Verdict → Type 0
+MayRun orders (Accepted call) = IsNoQuery call × IsCallOf orders call
+MayRun orders (Refused r) = Unit {0}
 
 -- line n was run, and its row was appended
-abbrev pub IsRun : Running → Running → ℕ → Verdict → List ℕ → List ℕ → Type 0
+abbrev pub IsRun : RunState → RunState → ℕ → Verdict → List ℕ → List ℕ → Type 0
 IsRun old new n (Accepted call) before after = (o : Option Reply) × StepsTo old new n call o × (after ≡ before ++ text_of (call_rows n o))
 IsRun old new n (Refused r) before after = (new ≡ old) × (after ≡ before ++ text_of (line_rows n (Refused r) None))
+
+-- a world of one session, without queries
+pub record IsOneSession (w : World) (script : List Verdict) : Type 0 where
+  pub valid : IsValid w
+  pub scripts : w.scripts ≡ script ∷ []
+  pub no_query : All AsksNoQuery script
+
+-- all lines are done
+pub record IsFinished (w : World) (run : RunState) : Type 0 where
+  pub now : IsRunOf w run
+  pub order : IsOrder w run.entries
+  pub gets : AllGets w run.entries

@@ -1,105 +1,148 @@
--- What a manifest and its script ask for: one flat tensor of order 1, and one session of `set`, `add` and `get` lines.
-use Rattle.std.specs.Prelude.{ℕ, ◌≡◌, Bool, true, false, List, [], ◌∷◌, find, length, Option, Some, None, Result, Ok, Err, is_none, ◌&&◌, ◌⊎◌, if◌then◌else◌, nat_lt, codes}
-use Rattle.std.specs.Option.{option_map}
-use Rattle.std.specs.List.{enumerate_from, filter_map}
+-- What a manifest asks for: a world, and the tensors that are printed after its run; or the first fault of a file.
+use Rattle.std.specs.Prelude.{ℕ, ◌+◌, ◌-◌, Bool, List, [], ◌∷◌, ◌++◌, map, length, sum_by, slice_index_or, slice_set, Result, Ok, Err, nat_le}
+use Rattle.std.specs.List.{list_all}
 use Rattle.dt_model.specs.declared.declared_tensors.Decls.{Decls}
-use Rattle.dt_model.specs.declared.declared_tensors.Schema.{Schema}
 use Rattle.dt_model.specs.declared.declared_tensors.TensorDecl.{TensorDecl}
-use Rattle.dt_model.specs.declared.declared_tensors.Links.TheVariants.{Flat}
+use Rattle.dt_model.specs.declared.limits.TheConstants.{FILE_LIMIT, MOST_LINES}
 use Rattle.dt_model.specs.declared.replies.Verdict.{Verdict}
 use Rattle.dt_model.specs.declared.replies.World.{World}
-use Rattle.dt_model.specs.Texts.{number_of}
-use Rattle.dt_model.specs.Refusals.{WrittenCall, WrittenGet, WrittenBatch, Whole}
-use Rattle.dt_model.specs.Verdicts.{verdict}
-use Rattle.dt_text.specs.Numerals.{whole_of}
-use Rattle.dyntensor.specs.declared.plans.FlatTensor.{FlatTensor}
-use Rattle.dyntensor.specs.declared.plans.Plan.{Plan}
-use Rattle.dyntensor.specs.declared.plans.Fault.{Fault}
-use Rattle.dyntensor.specs.declared.plans.Cause.TheVariants.{NotBuilt, Limit}
-use Rattle.dyntensor.specs.Rows.{counted, within_limit, equals_text, then_read}
-use Rattle.dyntensor.specs.Manifest.{plan_of}
+use Rattle.dt_model.specs.Flat.{flat_name, flat_schema}
+use Rattle.dt_model.specs.Tensors.{dims_of}
+use Rattle.dt_model.specs.Verdicts.{tensor_number}
+use Rattle.dt_model.specs.Worlds.{updates_in}
+use Rattle.tns_io.specs.declared.faults.FileCause.TheVariants as because
+use Rattle.tns_io.specs.declared.faults.FileFault.{FileFault}
+use Rattle.tns_io.specs.Faults.{fault_at}
+use Rattle.tns_io.specs.Tns.{tns_of}
+use Rattle.script_read.specs.declared.items.Item.{Item}
+use Rattle.script_read.specs.declared.items.Item.TheVariants.{Schema, Tensor, Load, Session, Print}
+use Rattle.script_read.specs.Readings.{◌>>=◌, check, equals_text}
+use Rattle.script_read.specs.Manifests.{manifest_of}
+use Rattle.script_read.specs.Scripts.{script_of}
+use Rattle.dyntensor.specs.declared.faults.Fault.{Fault}
 
--- ---- the script
+-- the bytes of each file by its name
+abbrev pub Files : Type 0
+Files = List ℕ → List ℕ
 
--- one node without links
-abbrev pub flat : Schema
-flat = record { name = codes "flat"; kinds = record { items = (record { name = codes "flat"; lo = 1; hi = 16; links = Flat }) ∷ [] }; root = codes "flat" }
+-- ---- one file
 
--- a tensor of order 1, whose schema is number 0
-abbrev pub decl_of : FlatTensor → TensorDecl
-decl_of t = record { name = t.name; dims = t.dim ∷ []; formats = record { items = 0 ∷ [] }; latches = t.latches }
+-- a fault of a named file
+abbrev pub fault_in : List ℕ → FileFault → Fault
+fault_in file fault = record { file = file; line = fault.line; cause = fault.cause }
 
--- the declarations of `flat` and of a tensor
-abbrev pub decls_of : FlatTensor → Decls
-decls_of t = record { schemas = flat ∷ []; tensors = decl_of t ∷ [] }
+-- a reading of a file's text, whose fault names the file
+abbrev pub located : {X : Type 0} → List ℕ → Result X FileFault → Result X Fault
+located file (Ok x) = Ok x
+located file (Err fault) = Err (fault_in file fault)
 
--- whether the verb of an update adds
-abbrev pub adds_of : List ℕ → Option Bool
-adds_of verb = if equals_text (codes "set") verb then Some false else (if equals_text (codes "add") verb then Some true else None)
+-- the fault of a file that is too large: it has line 0
+abbrev pub too_large : List ℕ → Fault
+too_large file = fault_in file (fault_at 0 because.Limit)
 
--- an update of this name, where each of its parts was read
-abbrev pub update_by : List ℕ → Option Bool → Option ℕ → Option ℕ → Option WrittenCall
-update_by name None c v = None
-update_by name (Some adds) None v = None
-update_by name (Some adds) (Some c) None = None
-update_by name (Some adds) (Some c) (Some v) = Some (WrittenBatch ((record { adds = adds; name = name; coords = c ∷ []; number = Whole v }) ∷ []))
+-- the text of a file, if it is no longer than the limit
+abbrev pub text_in : Files → List ℕ → Result (List ℕ) Fault
+text_in files file = check (nat_le (length (files file)) FILE_LIMIT) (too_large file) >>= (λ _. Ok (files file))
 
--- a get of this name, where its coordinate was read
-abbrev pub get_by : List ℕ → Option ℕ → Option WrittenCall
-get_by name None = None
-get_by name (Some c) = Some (WrittenGet name (c ∷ []))
+-- ---- what the items of a manifest bring
 
--- the words `get NAME C`, `set NAME C VALUE` and `add NAME C VALUE`, with the declared name
-abbrev pub written_of : FlatTensor → List (List ℕ) → Option WrittenCall
-written_of t (verb ∷ name ∷ c ∷ []) = if equals_text t.name name && equals_text (codes "get") verb then get_by name (number_of c) else None
-written_of t (verb ∷ name ∷ c ∷ v ∷ []) = if equals_text t.name name then update_by name (adds_of verb) (number_of c) (whole_of v) else None
-written_of t words = None
+-- the tensors, the loaded lines of each, the scripts with the count of their bytes, and the numbers of the tensors to print
+pub record Gathered : Type 0 where
+  pub tensors : List TensorDecl
+  pub base : List (List (List ℕ × ℕ))
+  pub scripts : List (List Verdict)
+  pub script_bytes : ℕ
+  pub printed : List ℕ
 
--- the verdict on a line that has one of these forms
-abbrev pub verdict_of : FlatTensor → List ℕ → Option Verdict
-verdict_of t line = option_map (verdict (decls_of t)) (within_limit (written_of t) line)
+-- nothing
+abbrev pub nothing : Gathered
+nothing = record { tensors = []; base = []; scripts = []; script_bytes = 0; printed = [] }
 
--- the verdict on a line with its place among those that count, from 0: past the 65,536th there is none
-abbrev pub verdict_on : FlatTensor → ℕ × (ℕ × List ℕ) → Option Verdict
-verdict_on t p = if nat_lt p.0 65536 then verdict_of t p.1.1 else None
+-- the declarations: the schema `flat` and the tensors
+abbrev pub decls_of : Gathered → Decls
+decls_of g = record { schemas = flat_schema ∷ []; tensors = g.tensors }
 
--- the verdicts, unless a line has none
-abbrev pub script_by : Option (ℕ × (ℕ × List ℕ)) → List Verdict → Result (List Verdict) ℕ
-script_by None verdicts = Ok verdicts
-script_by (Some p) verdicts = Err p.1.0
+-- how many lines tensors have together
+abbrev pub lines_in : List (List (List ℕ × ℕ)) → ℕ
+lines_in base = sum_by length base
 
--- the verdicts on a script's lines that count, or the first of these lines that has none
-abbrev pub script_of : FlatTensor → List (ℕ × List ℕ) → Result (List Verdict) ℕ
-script_of t rows = let lines = enumerate_from 0 rows in script_by (find (λ p. is_none (verdict_on t p)) lines) (filter_map (verdict_on t) lines)
+-- how many updates the accepted calls of scripts have together
+abbrev pub updates_of : List (List Verdict) → ℕ
+updates_of scripts = sum_by (λ script. sum_by updates_in script) scripts
+
+-- how many loaded lines and accepted updates there may still be
+abbrev pub lines_left : Gathered → ℕ
+lines_left g = MOST_LINES - (lines_in g.base + updates_of g.scripts)
+
+-- a tensor more, without lines; all its modes have schema number 0
+abbrev pub with_tensor : Gathered → List ℕ → List ℕ → ℕ → Gathered
+with_tensor g name dims latches = record g {
+  tensors = g.tensors ++ record { name = name; dims = dims; formats = record { items = map (λ d. 0) dims }; latches = latches } ∷ [];
+  base = g.base ++ [] ∷ [];
+}
+
+-- lines more of tensor t, behind those that it has
+abbrev pub with_lines : Gathered → ℕ → List (List ℕ × ℕ) → Gathered
+with_lines g t lines = record g { base = slice_set g.base t (slice_index_or g.base t [] ++ lines) }
+
+-- a script more, from a text of this length
+abbrev pub with_script : Gathered → ℕ → List Verdict → Gathered
+with_script g bytes script = record g { scripts = g.scripts ++ script ∷ []; script_bytes = g.script_bytes + bytes }
+
+-- a tensor more to print
+abbrev pub with_print : Gathered → ℕ → Gathered
+with_print g t = record g { printed = g.printed ++ t ∷ [] }
+
+-- ---- the items of a manifest in turn
+
+-- whether a schema's name is `flat`
+abbrev pub is_flat : List ℕ → Bool
+is_flat name = equals_text flat_name name
+
+-- what a `load` line adds: the lines of its file
+abbrev pub loaded : Files → Gathered → List ℕ → List ℕ → Result Gathered Fault
+loaded files g name file = let t = tensor_number (decls_of g) name in
+    text_in files file >>= (λ text.
+    located file (tns_of (dims_of (decls_of g) t) (lines_left g) text) >>= (λ lines.
+    Ok (with_lines g t lines)))
+
+-- what a `session` line adds: the verdicts of its script, where all scripts so far are no longer than the limit
+abbrev pub with_session : Files → Gathered → List ℕ → Result Gathered Fault
+with_session files g file =
+    text_in files file >>= (λ text.
+    check (nat_le (g.script_bytes + length text) FILE_LIMIT) (too_large file) >>= (λ _.
+    located file (script_of (decls_of g) (lines_left g) text) >>= (λ script.
+    Ok (with_script g (length text) script))))
+
+-- what an item at a line of the manifest adds, or its fault
+abbrev pub with_item : Files → List ℕ → Gathered → ℕ → Item → Result Gathered Fault
+with_item files manifest g line (Schema file) = Ok g
+with_item files manifest g line (Tensor name dims formats latches) =
+    check (list_all is_flat formats.items) (fault_in manifest (fault_at line because.Name)) >>= (λ _. Ok (with_tensor g name dims latches))
+with_item files manifest g line (Load name file) = loaded files g name file
+with_item files manifest g line (Session file) = with_session files g file
+with_item files manifest g line (Print name) = Ok (with_print g (tensor_number (decls_of g) name))
+
+-- what the items add one after the other, or the first fault
+abbrev pub with_items : Files → List ℕ → Gathered → List (ℕ × Item) → Result Gathered Fault
+with_items files manifest g [] = Ok g
+with_items files manifest g (item ∷ items) = with_item files manifest g item.0 item.1 >>= (λ more. with_items files manifest more items)
 
 -- ---- the workload
-
--- a fault with its file: a line that isn't built
-abbrev pub located : {X : Type 0} → List ℕ → Result X ℕ → Result X Fault
-located file (Ok x) = Ok x
-located file (Err line) = Err (record { file = file; line = line; cause = NotBuilt })
-
--- the reading of a file's lines that count, where it has at most 67,108,864 bytes
-abbrev pub read_in : {X : Type 0} → (List ℕ → List ℕ) → List ℕ → (List (ℕ × List ℕ) → Result X ℕ) → Result X Fault
-read_in files file read = if nat_lt 67108864 (length (files file)) then Err (record { file = file; line = 0; cause = Limit }) else located file (read (counted (files file)))
 
 -- a world, and the numbers of the tensors that are printed after its run
 pub record Work : Type 0 where
   pub world : World
   pub printed : List ℕ
 
--- the world of a tensor without loaded lines and of one script
-abbrev pub world_of : FlatTensor → List Verdict → World
-world_of t verdicts = record { decls = decls_of t; base = [] ∷ []; scripts = verdicts ∷ [] }
+-- the work that was gathered
+abbrev pub work_of : Gathered → Work
+work_of g = record { world = record { decls = decls_of g; base = g.base; scripts = g.scripts }; printed = g.printed }
 
--- work after which no tensor is printed
-abbrev pub work_of : FlatTensor → List Verdict → Work
-work_of t verdicts = record { world = world_of t verdicts; printed = [] }
+-- the items of a manifest
+abbrev pub items_in : Files → List ℕ → Result (List (ℕ × Item)) Fault
+items_in files manifest = text_in files manifest >>= (λ text. located manifest (manifest_of text))
 
--- what a manifest asks for: the work of its tensor and its session's script; or the first fault, the manifest being read before the script
-abbrev pub workload : (List ℕ → List ℕ) → List ℕ → Result Work Fault
-workload files manifest = then_read (read_in files manifest plan_of) (λ plan. then_read (read_in files plan.file (script_of plan.tensor)) (λ verdicts. Ok (work_of plan.tensor verdicts)))
-
--- a file that is fetched: the manifest, or the script of a manifest without fault
-abbrev pub IsReached : (List ℕ → List ℕ) → List ℕ → List ℕ → Type 0
-IsReached files manifest file = (file ≡ manifest) ⊎ ((plan : Plan) × (read_in files manifest plan_of ≡ Ok plan) × (file ≡ plan.file))
+-- what a manifest asks for, or the first fault: those of its lines first, then its files in the order of its lines
+abbrev pub workload : Files → List ℕ → Result Work Fault
+workload files manifest = items_in files manifest >>= (λ items. with_items files manifest nothing items >>= (λ g. Ok (work_of g)))

@@ -2,38 +2,37 @@
 //!
 //! `top_run` runs the workload of a manifest and writes the report; `main` hands it the words, the
 //! real files and standard output.
-//! A clause of `top_run` sees the words as bytes, the files where the shelf tells them, what was
-//! written where the sink tells it, and both counts of faults. Read `specs/Workload.antt` first, then
-//! `specs/Outcome.antt`; the forms of lines are in `specs/Manifest.antt`.
-//! Lines, sessions and calls are counted from 1. A file has at most 67,108,864 bytes, a line that
-//! counts 4,096, a script 65,536 lines that count. A manifest declares one flat tensor of order 1 and
-//! one session.
-//! Not here: how a call is made (`sessions`), what a real file or stream holds (`dt_outside`).
+//! A clause of `top_run` sees the words as bytes, the files where the shelf exposes them, what was
+//! written where the sink exposes it, and both counts of faults. Read `specs/Workload.antt` first,
+//! then `specs/Outcome.antt`.
+//! Lines, sessions and calls are counted from 1, tensors from 0. A file has at most `FILE_LIMIT`
+//! bytes, as have all scripts together; loaded lines and accepted updates are at most `MOST_LINES`.
+//! Not here: what the lines of a manifest or a script say (`script_read`) and those of data (`tns_io`),
+//! how a call is made (`sessions`), what a real file or stream has (`dt_outside`).
 #![tactic(auto)]
 
+mod commands;
+mod drivers;
 mod fault_lines;
-mod file_names;
-mod manifests;
+mod faults;
+mod gathering;
 mod outcomes;
-mod plans;
 mod report_rows;
-mod rows;
 mod runs;
-mod scripts;
+mod stops;
 #[cfg(test)]
 mod tests;
 mod top;
 mod workloads;
 
-use crate::file_names::FILE_NAME_LIMIT;
-use crate::outcomes::{Ending, print};
+use crate::outcomes::{Outcome, write_outcome};
 use crate::top::top_run;
-use dt_model::NoMemory;
+use dt_model::{FILE_NAME_LIMIT, NoMemory};
 use dt_outside::{FileShelf, OpenGate, StreamSink};
 use std::env::{Env, FillError};
 use std::process::ExitCode;
 
-/// What stands at a place of the command line.
+/// A word of the command line, or its end.
 #[derive(Drop)]
 enum Word {
     /// At most 255 bytes of UTF-8.
@@ -44,6 +43,7 @@ enum Word {
     End,
 }
 
+/// What stands at a place of the command line.
 fn word_at(rt: &HostRuntime, place: usize) -> Result<Word, NoMemory> {
     let mut buffer = [0; FILE_NAME_LIMIT];
     let len = match rt.arg(place, &mut buffer) {
@@ -54,10 +54,7 @@ fn word_at(rt: &HostRuntime, place: usize) -> Result<Word, NoMemory> {
     let Ok(text) = std::str::from_utf8(&buffer[..len]) else {
         return Ok(Word::Other);
     };
-    match String::from_str(rt.alloc(), text) {
-        Ok(word) => Ok(Word::Text(word)),
-        Err(_) => Err(NoMemory),
-    }
+    Ok(Word::Text(String::from_str(rt.alloc(), text)?))
 }
 
 /// The words behind the program's name, which itself may be of any bytes; none where one of them is
@@ -67,9 +64,7 @@ fn words_of(rt: &HostRuntime) -> Result<Vec<String>, NoMemory> {
     for place in 1..usize::MAX {
         match word_at(rt, place)? {
             Word::Text(word) => {
-                if words.push(word).is_err() {
-                    return Err(NoMemory);
-                }
+                words.push(word)?;
             }
             Word::Other => return Ok(Vec::new(rt.alloc())),
             Word::End => break,
@@ -78,12 +73,13 @@ fn words_of(rt: &HostRuntime) -> Result<Vec<String>, NoMemory> {
     Ok(words)
 }
 
+/// Runs the program, and ends with its status.
 fn main(rt: HostRuntime) -> ExitCode {
     let mut shelf = FileShelf::new(rt);
     let mut sink = StreamSink::new(rt);
     let status = match words_of(&rt) {
         Ok(words) => top_run(rt.alloc(), &words, &mut shelf, &mut sink, &OpenGate),
-        Err(NoMemory) => print(&mut sink, &Ending::NoMemory),
+        Err(NoMemory) => write_outcome(&mut sink, &Outcome::OutOfMemory),
     };
     ExitCode::from(status)
 }

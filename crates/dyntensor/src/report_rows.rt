@@ -1,12 +1,23 @@
-ghost use Rattle.std.specs.Prelude.{◌≡◌, ◌<◌, ◌++◌, ◌∷◌, [], codes, OnOk, length, map, ◌^◌};
+//! The rows of a report.
+ghost use Rattle.std.specs.Prelude.{◌≡◌, ◌++◌, ◌∷◌, [], codes, OnOk, length, map};
 ghost use Rattle.std.specs.Fmt.{decimal};
 ghost use Rattle.std.specs.List.{join_with_byte};
 ghost use Rattle.dt_model.specs.Texts.{text_of};
-ghost use Rattle.dt_model.specs.Report.{call_rows, history_rows, turn_row, refusal_words};
-ghost use Rattle.sessions.specs.Running.{IsPlain};
+ghost use Rattle.dt_model.specs.Report.{call_rows, history_rows, pair_row, turn_row, refusal_words};
+ghost use Rattle.sessions.specs.RunState.{IsPlain};
 
-use dt_model::{Entry, Name, NoMemory, Refusal, Reply};
+use dt_model::{Entry, Name, NoMemory, Nonzeros, Refusal, Reply};
 use dt_text::{append, write_number, write_value};
+use itoa::Buffer;
+use tns_io::write_tns;
+
+/// Appends the row that begins a session.
+pub fn write_session(number: u32, text: &mut Vec<u8>) -> Result<(), NoMemory>
+    ensures ok { OnOk result (text.new.items ≡ text.old.items ++ text_of ((codes "session" ∷ decimal number ∷ []) ∷ [])) }
+{
+    write_numbered("session ", number, text)?;
+    append(text, b"\n")
+}
 
 /// Appends the row of a call's reply, or of a call that found no memory.
 pub fn write_reply(number: u32, reply: &Option<Reply>, text: &mut Vec<u8>) -> Result<(), NoMemory>
@@ -41,6 +52,15 @@ fn write_numbered(before: &str, number: u32, text: &mut Vec<u8>) -> Result<(), N
 {
     append(text, before.as_bytes())?;
     write_number(number, text)
+}
+
+/// Appends a count behind a text.
+fn write_counted(before: &str, count: usize, text: &mut Vec<u8>) -> Result<(), NoMemory>
+    ensures ok { OnOk result (text.new.items ≡ text.old.items ++ before.now ++ decimal count) }
+{
+    append(text, before.as_bytes())?;
+    let mut buffer = Buffer::new();
+    append(text, buffer.format(count as u64).as_bytes())
 }
 
 /// Appends two numbers.
@@ -94,15 +114,14 @@ pub fn write_refusal(number: u32, refusal: &Refusal, text: &mut Vec<u8>) -> Resu
 
 /// Appends the rows of the history.
 pub fn write_history(entries: &[Entry], text: &mut Vec<u8>) -> Result<(), NoMemory>
-    requires few { length entries.now < 2 ^ 32 }
     ensures ok { OnOk result (text.new.items ≡ text.old.items ++ text_of (history_rows entries.now)) }
 {
-    append(text, b"history ")?;
-    write_number(entries.len() as u32, text)?;
+    write_counted("history ", entries.len(), text)?;
     append(text, b"\n")?;
     write_turns(entries, text)
 }
 
+/// Appends the row of each turn.
 fn write_turns(entries: &[Entry], text: &mut Vec<u8>) -> Result<(), NoMemory>
     ensures ok { OnOk result (text.new.items ≡ text.old.items ++ text_of (map turn_row entries.now)) }
 {
@@ -113,4 +132,14 @@ fn write_turns(entries: &[Entry], text: &mut Vec<u8>) -> Result<(), NoMemory>
         append(text, b"\n")?;
     }
     Ok(())
+}
+
+/// Appends the rows of a printed tensor.
+pub fn write_tensor(name: &Name, nonzeros: &Nonzeros, text: &mut Vec<u8>) -> Result<(), NoMemory>
+    ensures ok { OnOk result (text.new.items ≡ text.old.items ++ text_of ((codes "tensor" ∷ name.now ∷ decimal (length nonzeros.now) ∷ []) ∷ map pair_row nonzeros.now)) }
+{
+    write_name("tensor ", name, "", text)?;
+    write_counted(" ", nonzeros.len(), text)?;
+    append(text, b"\n")?;
+    write_tns(nonzeros, text)
 }

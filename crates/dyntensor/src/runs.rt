@@ -1,26 +1,29 @@
-ghost use Rattle.std.specs.Prelude.{◌≡◌, ◌<◌, ◌≤◌, ◌++◌, [], OnOk, IfOk, length};
+//! Runs the calls of a world on one thread, and writes the report.
+ghost use Rattle.std.specs.Prelude.{◌≡◌, ◌<◌, ◌≤◌, ◌++◌, [], OnOk, IfOk, All, length};
+ghost use Rattle.std.specs.List.{flat_map, enumerate_from};
+ghost use Rattle.dt_model.specs.declared.limits.TheConstants.{MOST_CALLS};
 ghost use Rattle.dt_model.specs.Texts.{text_of};
-ghost use Rattle.dt_model.specs.Runs.{reply_at};
-ghost use Rattle.dt_model.specs.Report.{lines_rows, PrintsRun};
-ghost use Rattle.dt_model.specs.Calls.{IsWithin};
-ghost use Rattle.sessions.specs.Running.{IsNoQuery, IsPlain};
-ghost use Rattle.dyntensor.specs.ScriptRun.{StepsTo, IsSoFar, MayRun, IsRun};
-ghost use Rattle.dyntensor.specs.Stops.{IsOneSession};
+ghost use Rattle.dt_model.specs.Runs.{reply_of_turn};
+ghost use Rattle.dt_model.specs.Report.{lines_rows, session_rows, tensor_rows, PrintsRun};
+ghost use Rattle.commit_core.specs.Orders.{IsCallOf};
+ghost use Rattle.sessions.specs.RunState.{IsNoQuery, IsPlain, IsRunOf};
+ghost use Rattle.dyntensor.specs.Gathering.{IsRunnable};
+ghost use Rattle.dyntensor.specs.ScriptRun.{StepsTo, IsSoFar, MayRun, IsRun, IsOneSession, IsFinished};
 
-use crate::report_rows::{write_history, write_refusal, write_reply};
-use dt_model::{Call, NoMemory, Reply, Turn, Verdict, World};
-use dt_text::append;
+use crate::report_rows::{write_history, write_refusal, write_reply, write_session, write_tensor};
+use dt_model::{Call, NoMemory, Reply, Scripts, Turn, Verdict, World};
 use sessions::Plain;
 use std::alloc::Global;
 
 /// Makes a call, or finds no memory.
 fn make_call(alloc: Global, plain: &mut Plain, number: u32, call: &Call) -> Option<Reply>
     requires no_query { IsNoQuery call.now }
-    requires within { IsWithin (length plain.old.tensors) call.now }
+    requires cells { IsCallOf plain.old.orders call.now }
     requires above { plain.old.last < number }
     requires below { number ≤ plain.old.calls }
     ensures step { StepsTo plain.old plain.new number call.now result }
     ensures calls { plain.new.calls ≡ plain.old.calls }
+    ensures orders { plain.new.orders ≡ plain.old.orders }
     ensures plain { IsPlain result }
 {
     let turn = Turn { session: 1, number };
@@ -41,7 +44,7 @@ fn run_line(
     verdict: &Verdict,
     text: &mut Vec<u8>,
 ) -> Result<(), NoMemory>
-    requires may_run { MayRun (length plain.old.tensors) verdict.now }
+    requires may_run { MayRun plain.old.orders verdict.now }
     requires above { plain.old.last < number }
     requires below { number ≤ plain.old.calls }
     ensures run { OnOk result (IsRun plain.old plain.new number verdict.now text.old.items text.new.items) }
@@ -68,7 +71,7 @@ fn run_script(
     requires room { length script.now ≤ plain.old.calls }
     requires start { IsSoFar world.now 0 plain.old }
     ensures done { OnOk result (IsSoFar world.now (length script.now) plain.new) }
-    ensures rows { OnOk result (text.new.items ≡ text.old.items ++ text_of (lines_rows (reply_at world.now plain.new.entries 1) 1 script.now)) }
+    ensures rows { OnOk result (text.new.items ≡ text.old.items ++ text_of (lines_rows (reply_of_turn world.now plain.new.entries 1) 1 script.now)) }
 {
     // The clauses speak of the world; the code reads the script alone.
     let _ = world;
@@ -79,15 +82,71 @@ fn run_script(
     Ok(())
 }
 
-/// Runs the one session of a world, and writes the report.
-pub fn run_report(alloc: Global, world: &World, script: &[Verdict]) -> Result<Vec<u8>, NoMemory>
-    requires one { IsOneSession world.now script.now }
-    ensures printed { IfOk result (λ bytes. PrintsRun world.now [] bytes.items) }
+/// Appends the rows of the printed tensors.
+fn write_tensors(
+    world: &World,
+    plain: &Plain,
+    printed: &[u32],
+    text: &mut Vec<u8>,
+) -> Result<(), NoMemory>
+    requires runnable { IsRunnable world.now printed.now }
+    requires finished { IsFinished world.now plain.now }
+    ensures rows { OnOk result (text.new.items ≡ text.old.items ++ text_of (flat_map (tensor_rows world.now plain.now.entries) printed.now)) }
 {
-    let mut plain = Plain::open(alloc, world, script.len() as u32)?;
+    let tensors = world.decls.tensors.as_slice();
+    for tensor in printed {
+        let nonzeros = plain.pairs(*tensor)?;
+        write_tensor(&tensors[*tensor as usize].name, &nonzeros, text)?;
+    }
+    Ok(())
+}
+
+/// Makes the calls of the session, if there is one, and appends its rows.
+fn run_sessions(
+    alloc: Global,
+    world: &World,
+    plain: &mut Plain,
+    text: &mut Vec<u8>,
+) -> Result<(), NoMemory>
+    requires runnable { IsRunnable world.now [] }
+    requires room { All (λ script. length script ≤ plain.old.calls) world.now.scripts }
+    requires run { IsRunOf world.now plain.old }
+    requires fresh { plain.old.entries ≡ [] }
+    requires start { plain.old.last ≡ 0 }
+    ensures done { OnOk result (IsFinished world.now plain.new) }
+    ensures rows { OnOk result (text.new.items ≡ text.old.items ++ text_of (flat_map (session_rows world.now plain.new.entries) (enumerate_from 1 world.now.scripts))) }
+{
+    match world.scripts.get(0) {
+        None => Ok(()),
+        Some(script) => {
+            write_session(1, text)?;
+            run_script(alloc, world, script.as_slice(), plain, text)
+        }
+    }
+}
+
+/// The most calls that a script has.
+fn most_calls(scripts: &Scripts) -> u32
+    requires calls { All (λ script. length script ≤ MOST_CALLS) scripts.now }
+    requires single { length scripts.now ≤ 1 }
+    ensures room { All (λ script. length script ≤ result) scripts.now }
+    ensures few { result ≤ MOST_CALLS }
+{
+    match scripts.get(0) {
+        None => 0,
+        Some(script) => script.len() as u32,
+    }
+}
+
+/// Runs a world of at most one session, and writes the report with the printed tensors.
+pub fn run_report(alloc: Global, world: &World, printed: &[u32]) -> Result<Vec<u8>, NoMemory>
+    requires runnable { IsRunnable world.now printed.now }
+    ensures printed { IfOk result (λ bytes. PrintsRun world.now printed.now bytes.items) }
+{
+    let mut plain = Plain::open(alloc, world, most_calls(&world.scripts))?;
     let mut text = Vec::new(alloc);
-    append(&mut text, b"session 1\n")?;
-    run_script(alloc, world, script, &mut plain, &mut text)?;
+    run_sessions(alloc, world, &mut plain, &mut text)?;
     write_history(plain.journal().as_slice(), &mut text)?;
+    write_tensors(world, &plain, printed, &mut text)?;
     Ok(text)
 }

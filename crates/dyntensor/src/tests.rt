@@ -1,3 +1,4 @@
+//! Runs with their exact texts.
 use crate::top::top_run;
 use dt_outside::{MemShelf, MemSink, OpenGate, SureShelf, SureSink};
 use std::alloc::{AllocError, Global};
@@ -11,6 +12,7 @@ const REPORT: &[u8] = b"session 1\n1 ok\n2 value 7\nhistory 2\n1 1\n1 2\n";
 
 const USAGE: &[u8] = b"usage: dyntensor run MANIFEST | check SCHEMAS | sample N\n";
 
+/// The words of a command line.
 fn words_of(alloc: Global, words: &[&str]) -> Result<Vec<String>, AllocError> {
     let mut all = Vec::new(alloc);
     for word in words {
@@ -19,11 +21,12 @@ fn words_of(alloc: Global, words: &[&str]) -> Result<Vec<String>, AllocError> {
     Ok(all)
 }
 
-/// The status and the text of a run over a manifest and a script that are there.
-fn run(alloc: Global, manifest: &[u8], script: &[u8]) -> Result<(u8, Vec<u8>), Fail> {
+/// The status and the text of a run over these files.
+fn run(alloc: Global, files: &[(&str, &[u8])]) -> Result<(u8, Vec<u8>), Fail> {
     let mut shelf = SureShelf::new(alloc);
-    shelf.add("m", manifest)?;
-    shelf.add("s", script)?;
+    for (name, bytes) in files {
+        shelf.add(name, bytes)?;
+    }
     let mut sink = SureSink::new(alloc, 4096)?;
     let words = words_of(alloc, &["run", "m"])?;
     let status = top_run(alloc, &words, &mut shelf, &mut sink, &OpenGate);
@@ -31,8 +34,22 @@ fn run(alloc: Global, manifest: &[u8], script: &[u8]) -> Result<(u8, Vec<u8>), F
 }
 
 #[test]
+fn a_report_is_written(rt: HostRuntime) -> Result<(), Fail> {
+    let alloc = rt.alloc();
+    let words = words_of(alloc, &["run", "m"])?;
+    let mut shelf = SureShelf::new(alloc);
+    shelf.add("m", b"tensor v 5 as flat latches 1\nload v t\nprint v\n")?;
+    shelf.add("t", b"2 7\n")?;
+    let mut sink = SureSink::new(alloc, 100)?;
+    let status = top_run(alloc, &words, &mut shelf, &mut sink, &OpenGate);
+    assert_eq!(rt; sink.bytes(), b"history 0\ntensor v 1\n2 7\n".as_slice());
+    assert_eq!(rt; status, 0);
+    Ok(())
+}
+
+#[test]
 fn scripts_print_their_reports(rt: HostRuntime) -> Result<(), Fail> {
-    let rows: [(&[u8], &[u8]); 7] = [
+    let rows: [(&[u8], &[u8]); 12] = [
         (SCRIPT, REPORT),
         (b"", b"session 1\nhistory 0\n"),
         (
@@ -44,12 +61,23 @@ fn scripts_print_their_reports(rt: HostRuntime) -> Result<(), Fail> {
             b"session 1\n1 ok\n2 value -1\n3 ok\n4 value -9223372036854775808\nhistory 4\n1 1\n1 2\n1 3\n1 4\n",
         ),
         (
-            b"get v 0\nget v 6\nset v 99999999999 1\n",
+            b"get v 0\nget v 6\nset v 9 2.5\n",
             b"session 1\n1 refused range v 1 5\n2 refused range v 1 5\n3 refused range v 1 5\nhistory 0\n",
+        ),
+        (
+            b"get v 0\nget v 6\n",
+            b"session 1\n1 refused range v 1 5\n2 refused range v 1 5\nhistory 0\n",
         ),
         (
             b"get v 5\nset v 5 1\nset v 4 2\nget v 5\n",
             b"session 1\n1 value 0\n2 ok\n3 ok\n4 value 1\nhistory 4\n1 1\n1 2\n1 3\n1 4\n",
+        ),
+        (b"get v -1\n", b"session 1\n1 refused form 7\nhistory 0\n"),
+        (b"set w 1 1\n", b"session 1\n1 refused name w\nhistory 0\n"),
+        (b"get v\n", b"session 1\n1 refused rank v 0 1\nhistory 0\n"),
+        (
+            b"set v 1 2.5\nset v 1 18446744073709551616\nset v 1 1e3\n",
+            b"session 1\n1 refused number whole\n2 refused number range\n3 ok\nhistory 1\n1 3\n",
         ),
         (
             b"# two calls\r\n\r\n\tset  v 02\t+7 \r\n \n#\nget v 2",
@@ -57,7 +85,7 @@ fn scripts_print_their_reports(rt: HostRuntime) -> Result<(), Fail> {
         ),
     ];
     for (script, report) in rows {
-        let (status, text) = run(rt.alloc(), MANIFEST, script)?;
+        let (status, text) = run(rt.alloc(), &[("m", MANIFEST), ("s", script)])?;
         assert_eq!(rt; text.as_slice(), report);
         assert_eq!(rt; status, 0);
     }
@@ -65,39 +93,138 @@ fn scripts_print_their_reports(rt: HostRuntime) -> Result<(), Fail> {
 }
 
 #[test]
-fn faults_name_their_file_and_line(rt: HostRuntime) -> Result<(), Fail> {
-    let rows: [(&[u8], &[u8], &[u8]); 7] = [
+fn data_is_loaded_and_printed(rt: HostRuntime) -> Result<(), Fail> {
+    let manifest = b"tensor B 2 2 as flat flat latches 2\nload B b.tns\nprint B\n".as_slice();
+    let rows: [(&[u8], u8, &[u8]); 9] = [
         (
-            b"tensor v 5 as flat latches 1\nsession s\nprint v\n",
-            SCRIPT,
-            b"refused m 3 not built\n",
-        ),
-        (b"# empty\n", SCRIPT, b"refused m 0 not built\n"),
-        (
-            b"tensor v 5 as flat latches 257\nsession s\n",
-            SCRIPT,
-            b"refused m 1 not built\n",
+            b"1 1 3.000\n2 2 2.50e1\n2 2 -5\n",
+            0,
+            b"history 0\ntensor B 2\n1 1 3\n2 2 20\n",
         ),
         (
-            b"tensor v 5 as flat latches 1\n\nsession \xff\n",
-            SCRIPT,
-            b"refused m 3 not built\n",
+            b"# two cells\r\n\r\n1 1 4\r\n2 2 6",
+            0,
+            b"history 0\ntensor B 2\n1 1 4\n2 2 6\n",
         ),
         (
-            MANIFEST,
-            b"get v 1\nset w 1 1\n",
-            b"refused s 2 not built\n",
+            b"2 2 1\n1 2 2\n2 1 5\n1 2 -2\n2 1 0\n",
+            0,
+            b"history 0\ntensor B 2\n2 1 5\n2 2 1\n",
         ),
+        (b"", 0, b"history 0\ntensor B 0\n"),
+        (b"1 1 2.5\n", 2, b"refused b.tns 1 whole\n"),
+        (b"1 1\n", 2, b"refused b.tns 1 rank\n"),
+        (b"3 1 4\n", 2, b"refused b.tns 1 range\n"),
+        (b"# x\n1 1 1\n1 x 1e30\n", 2, b"refused b.tns 3 form\n"),
         (
-            MANIFEST,
-            b"set v 1 18446744073709551616\n",
-            b"refused s 1 not built\n",
+            b"1 1 18446744073709551616\n",
+            2,
+            b"refused b.tns 1 number\n",
         ),
-        (MANIFEST, b"set v 1 2.5\n", b"refused s 1 not built\n"),
     ];
-    for (manifest, script, line) in rows {
-        let (status, text) = run(rt.alloc(), manifest, script)?;
-        assert_eq!(rt; text.as_slice(), line);
+    for (data, wanted, text) in rows {
+        let (status, written) = run(rt.alloc(), &[("m", manifest), ("b.tns", data)])?;
+        assert_eq!(rt; written.as_slice(), text);
+        assert_eq!(rt; status, wanted);
+    }
+    Ok(())
+}
+
+/// The files that the manifests of the next tests name.
+const FILES: [(&str, &[u8]); 5] = [
+    ("a", b"2 1 1 1 2 -1\n1 2 1 1 1 2\n"),
+    ("b", b"5 9\n1 8\n"),
+    ("s", SCRIPT),
+    ("q", b"get v 1\nquery a = v(i)\n"),
+    ("r", b"batch set v 1 1\n"),
+];
+
+/// The status and the text of a run over a manifest and those files.
+fn run_manifest(alloc: Global, manifest: &[u8]) -> Result<(u8, Vec<u8>), Fail> {
+    let [a, b, s, q, r] = FILES;
+    run(alloc, &[("m", manifest), a, b, s, q, r])
+}
+
+#[test]
+fn several_tensors_are_loaded_changed_and_printed(rt: HostRuntime) -> Result<(), Fail> {
+    let rows: [(&[u8], &[u8]); 4] = [
+        (b"", b"history 0\n"),
+        (
+            b"tensor t1 300 as flat latches 256\ntensor t2 300 as flat latches 256\ntensor t3 300 as flat latches 256\ntensor t4 300 as flat latches 256\n",
+            b"history 0\n",
+        ),
+        (
+            b"tensor v 5 as flat latches 1\ntensor A 2 2 1 1 2 as flat flat flat flat flat latches 3\nload A a\nload v b\nload A a\nsession s\nprint A\nprint v\n",
+            b"session 1\n1 ok\n2 value 7\nhistory 2\n1 1\n1 2\ntensor A 2\n1 2 1 1 1 4\n2 1 1 1 2 -2\ntensor v 3\n1 8\n2 7\n5 9\n",
+        ),
+        (
+            b"tensor v 5 as flat latches 1\nprint v\nload v b\nprint v\n",
+            b"history 0\ntensor v 2\n1 8\n5 9\ntensor v 2\n1 8\n5 9\n",
+        ),
+    ];
+    for (manifest, text) in rows {
+        let (status, written) = run_manifest(rt.alloc(), manifest)?;
+        assert_eq!(rt; written.as_slice(), text);
+        assert_eq!(rt; status, 0);
+    }
+    Ok(())
+}
+
+#[test]
+fn the_first_fault_names_its_file_and_line(rt: HostRuntime) -> Result<(), Fail> {
+    let rows: [(&[u8], &[u8]); 15] = [
+        (
+            b"print v\ntensor v 5 as flat latches 1\n",
+            b"refused m 1 name\n",
+        ),
+        (
+            b"tensor t1 300 as flat latches 256\ntensor t2 300 as flat latches 256\ntensor t3 300 as flat latches 256\ntensor t4 300 as flat latches 256\ntensor t5 300 as flat latches 1\n",
+            b"refused m 5 limit\n",
+        ),
+        (
+            b"tensor v 5 as flat latches 1\nsession s\nsession t\n",
+            b"refused m 3 not built\n",
+        ),
+        (b"schema q\n", b"refused m 1 not built\n"),
+        (b"tensor v 5 as flat\n", b"refused m 1 form\n"),
+        (
+            b"session s\ntensor v 5 as flat latches 1\n",
+            b"refused m 2 order\n",
+        ),
+        (
+            b"tensor v 5 as flat latches 1\n\ntensor v 0 as flat latches 1\n",
+            b"refused m 3 twice\n",
+        ),
+        (b"tensor v 0 as flat latches 1\n", b"refused m 1 range\n"),
+        (b"tensor v 5 as flat latches 257\n", b"refused m 1 range\n"),
+        (
+            b"tensor v 5 as tree latches 1\nload v b\n",
+            b"refused m 1 name\n",
+        ),
+        (
+            b"tensor v 5 as flat latches 1\nload v b\ntensor u 5 as tree latches 1\nload v a\n",
+            b"refused m 3 name\n",
+        ),
+        (
+            b"tensor v 5 as flat latches 1\nload v b\nload v a\nsession q\n",
+            b"refused a 1 rank\n",
+        ),
+        (
+            b"tensor v 5 as flat latches 1\nload v a\nput\n",
+            b"refused m 3 form\n",
+        ),
+        (
+            b"tensor v 5 as flat latches 1\nsession q\n",
+            b"refused q 2 not built\n",
+        ),
+        (
+            b"tensor v 5 as flat latches 1\nsession r\n",
+            b"refused r 1 not built\n",
+        ),
+    ];
+    for (manifest, text) in rows {
+        let (status, written) = run_manifest(rt.alloc(), manifest)?;
+        assert_eq!(rt; written.as_slice(), text);
         assert_eq!(rt; status, 2);
     }
     Ok(())

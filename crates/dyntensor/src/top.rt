@@ -1,15 +1,18 @@
-ghost use Rattle.std.specs.Prelude.{◌≡◌, ◌≢◌, ◌≤◌, ◌↔◌, ◌⊎◌, map, string_bytes, None, IfSome};
-ghost use Rattle.dt_outside.specs.Faults.{Rose};
-ghost use Rattle.dyntensor.specs.Outcome.{manifest_of, Ends, PrintsWorkload, WritesWhere, Completes};
-ghost use Rattle.dyntensor.specs.Stops.{seen};
+//! The top call of `run`.
+ghost use Rattle.std.specs.Prelude.{◌≡◌, ◌≢◌, ◌≤◌, ◌↔◌, map, string_bytes, None, IfSome};
+ghost use Rattle.dt_outside.specs.Faults.{HasRisen};
+ghost use Rattle.dyntensor.specs.Commands.{manifest_named};
+ghost use Rattle.dyntensor.specs.Headline.{PrintsWorkload, WritesWhere, Completes};
+ghost use Rattle.dyntensor.specs.Outcome.{Ends};
 
-use crate::outcomes::{ending_of, print};
+use crate::drivers::outcome_of;
+use crate::outcomes::write_outcome;
 use dt_outside::{Gate, Shelf, Sink};
 use std::alloc::Global;
 
 /// Runs the workload of the manifest that the words name, writes the text due, and answers the
 /// status: 0 a report, 1 the usage line, 2 a fault of the workload, 3 a file that the shelf failed to
-/// give, 4 a sink that failed, 5 want of memory outside a session's call. The texts of 1, 3 and 5
+/// give, 4 a sink that failed, 5 out of memory outside a session's call. The texts of 1, 3 and 5
 /// take no memory.
 pub fn top_run<S: Shelf, K: Sink, G: Gate + Sync>(
     alloc: Global,
@@ -18,26 +21,27 @@ pub fn top_run<S: Shelf, K: Sink, G: Gate + Sync>(
     sink: &mut K,
     gate: &G,
 ) -> u8
-    // Status 0: what was written is the report of the history that it tells, over the workload of the files.
-    ensures headline { result ≡ 0 → IfSome (S.files shelf.old) (λ files. IfSome (manifest_of (map string_bytes words.now))
+    // Status 0: what was written is the report of the history that it has, over the workload of the files.
+    ensures headline { result ≡ 0 → IfSome (S.state shelf.old).files (λ files. IfSome (manifest_named (map string_bytes words.now))
         (λ manifest. WritesWhere (PrintsWorkload files manifest) (K.written sink.old) (K.written sink.new))) }
 
     // Every status: the text that was written is due for it, or at 4 a beginning of one that is due, each with its cause.
-    ensures ended { Ends (map string_bytes words.now) (seen (S.files shelf.old) (S.faults shelf.old) (S.faults shelf.new) (S.blamed shelf.new)) result (K.written sink.old) (K.written sink.new) (K.faults sink.old) (K.faults sink.new) }
+    ensures ended { Ends (map string_bytes words.now) (S.state shelf.old) (S.state shelf.new) result (K.written sink.old) (K.written sink.new) (K.faults sink.old) (K.faults sink.new) }
     ensures statuses { result ≤ 5 }
 
     // Each fault has its cause.
-    ensures usage { result ≢ 4 → ((result ≡ 1) ↔ (manifest_of (map string_bytes words.now) ≡ None)) }
-    ensures shelf { result ≡ 3 → Rose (S.faults shelf.old) (S.faults shelf.new) }
-    ensures sink { result ≡ 4 → Rose (K.faults sink.old) (K.faults sink.new) }
+    ensures usage { result ≢ 4 → ((result ≡ 1) ↔ (manifest_named (map string_bytes words.now) ≡ None)) }
+    ensures shelf { result ≡ 3 → HasRisen (S.state shelf.old).faults (S.state shelf.new).faults }
+    ensures sink { result ≡ 4 → HasRisen (K.faults sink.old) (K.faults sink.new) }
     ensures quiet { result ≢ 4 → K.faults sink.new ≡ K.faults sink.old }
 
-    // Where no count rises, a sound workload is run and a faulty one is refused, but for want of memory.
-    ensures complete { (Rose (S.faults shelf.old) (S.faults shelf.new) → ⊥) → (Rose (K.faults sink.old) (K.faults sink.new) → ⊥) → IfSome (S.files shelf.old) (λ files. IfSome (manifest_of (map string_bytes words.now)) (λ manifest. Completes files manifest result)) }
-    ensures files { S.files shelf.new ≡ S.files shelf.old }
+    // Where no count rises, a sound workload is run and a faulty one is refused, unless the run is out of memory.
+    ensures complete { (HasRisen (S.state shelf.old).faults (S.state shelf.new).faults → ⊥) → (HasRisen (K.faults sink.old) (K.faults sink.new) → ⊥) → IfSome (S.state shelf.old).files
+        (λ files. IfSome (manifest_named (map string_bytes words.now)) (λ manifest. Completes files manifest result)) }
+    ensures files { (S.state shelf.new).files ≡ (S.state shelf.old).files }
 {
-    // The calls that will keep a gate take it from the first step on; a run on one thread meets none.
+    // Unused until calls run on several threads.
     let _ = gate;
-    let ending = ending_of(alloc, words, shelf);
-    print(sink, &ending)
+    let outcome = outcome_of(alloc, words, shelf);
+    write_outcome(sink, &outcome)
 }

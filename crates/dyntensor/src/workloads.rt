@@ -1,178 +1,187 @@
-ghost use Rattle.std.specs.Prelude.{◌≡◌, ◌≤◌, ◌∷◌, [], length, IfOk, IfErr, OnOk, IfSome, Ok, codes};
-ghost use Rattle.dyntensor.specs.Manifest.{plan_of};
-ghost use Rattle.dyntensor.specs.Workload.{read_in, script_of, workload, world_of, flat, decl_of};
-ghost use Rattle.dyntensor.specs.Stops.{first_script, seen, IsFetchStop, IsReadStop, IsStop, IsWithinLimits, IsOneSession};
+//! Reads what a manifest asks for: its items, and the files that they name, in the order of its lines.
+ghost use Rattle.std.specs.Prelude.{◌≡◌, ◌≤◌, ◌<◌, [], length, IfOk, IfErr, OnOk, IfSome, Ok, None, Some};
+ghost use Rattle.std.specs.List.{list_all};
+ghost use Rattle.dt_model.specs.Verdicts.{tensor_number};
+ghost use Rattle.dt_model.specs.declared.limits.TheConstants.{FILE_LIMIT};
+ghost use Rattle.tns_io.specs.Faults.{fault_at};
+ghost use Rattle.script_read.specs.Sound.{AreSound};
+ghost use Rattle.script_read.specs.Manifests.{nothing as nothing_declared};
+ghost use Rattle.dyntensor.specs.Reached.{file_of};
+ghost use Rattle.dyntensor.specs.Workload.{text_in, located, is_flat, decls_of, loaded, with_session, with_tensor, with_item, with_items, items_in, workload, nothing, work_of};
+ghost use Rattle.dyntensor.specs.Readings.{HoldsOf, IsQuiet, IsFileStop, IsStop};
+ghost use Rattle.dyntensor.specs.Gathering.{CanAdd, IsRunnable};
 
-use crate::file_names::FileName;
-use crate::manifests::read_manifest;
-use crate::plans::{Cause, Fault, FlatTensor, Plan};
-use crate::scripts::{ScriptFault, read_script};
-use arrayvec::ArrayVec;
-use dt_model::{
-    Coords, Decls, Kind, Links, Listed, Name, NoMemory, Pairs, Schema, TensorDecl, Verdicts, World,
-};
+use crate::faults::{fault_in, too_large};
+use crate::gathering::Gathering;
+use crate::stops::{Stop, stop_in};
+use dt_model::{FILE_LIMIT, Name, World};
 use dt_outside::{FetchFault, Shelf};
+use script_read::{FileName, Item, Manifest, read_manifest, read_script};
 use std::alloc::Global;
+use tns_io::{FileCause, FileFault, read_tns};
 
-/// The most bytes of a file.
-const FILE_LIMIT: u64 = 67_108_864;
-
-/// Why there is no world.
-#[derive(Debug, Drop)]
-pub enum Stop {
-    /// The workload has a fault.
-    Refused(Fault),
-    /// The shelf failed to give this file.
-    Unfetched(FileName),
-    /// No memory was found.
-    NoMemory,
-}
-
-fn not_built(file: FileName, line: u32) -> Stop
-    ensures value { result ≡ Stop.Refused (record { file = file; line = line; cause = Cause.NotBuilt }) }
-{
-    Stop::Refused(Fault {
-        file,
-        line,
-        cause: Cause::NotBuilt,
-    })
-}
+/// The name of the schema `flat`.
+const FLAT: &[u8] = b"flat";
 
 /// Fetches a file, and says why it did not come.
-fn fetch<S: Shelf>(alloc: Global, shelf: &mut S, name: &str) -> Result<Vec<u8>, Stop>
-    requires named { (1 ≤ length name.now) × (length name.now ≤ 255) }
-    ensures files { S.files shelf.new ≡ S.files shelf.old }
-    ensures short { IfOk result (λ text. length text.items ≤ 67108864) }
-    ensures bytes { IfOk result (λ text. IfSome (S.files shelf.old) (λ files. text.items ≡ files name.now)) }
-    ensures quiet { OnOk result (S.faults shelf.new ≡ S.faults shelf.old) }
-    ensures stop { IfErr result (IsFetchStop (seen (S.files shelf.old) (S.faults shelf.old) (S.faults shelf.new) (S.blamed shelf.new)) name.now) }
+fn fetch<S: Shelf>(alloc: Global, shelf: &mut S, file: &FileName) -> Result<Vec<u8>, Stop>
+    ensures quiet { OnOk result (IsQuiet (S.state shelf.old) (S.state shelf.new)) }
+    ensures short { IfOk result (λ text. length text.items ≤ FILE_LIMIT) }
+    ensures text { IfOk result (λ text. HoldsOf (S.state shelf.old).files (λ files. text_in files file.now ≡ Ok text.items)) }
+    ensures files { (S.state shelf.new).files ≡ (S.state shelf.old).files }
+    ensures stop { IfErr result (IsFileStop (S.state shelf.old) (S.state shelf.new) (Some file.now) (λ files. text_in files file.now)) }
 {
     let mut text = Vec::new(alloc);
-    match shelf.fetch(name, FILE_LIMIT, &mut text) {
+    match shelf.fetch(file.text(), FILE_LIMIT, &mut text) {
         Ok(()) => Ok(text),
-        Err(FetchFault::Failed) => Err(Stop::Unfetched(FileName::new(name))),
-        Err(FetchFault::TooLarge) => Err(Stop::Refused(Fault {
-            file: FileName::new(name),
-            line: 0,
-            cause: Cause::Limit,
-        })),
+        Err(FetchFault::Failed) => Err(Stop::Unfetched(file.copy())),
+        Err(FetchFault::TooLarge) => Err(Stop::Refused(too_large(file))),
         Err(FetchFault::NoMemory) => Err(Stop::NoMemory),
     }
 }
 
-/// Reads the plan of a manifest.
-fn read_plan<S: Shelf>(alloc: Global, shelf: &mut S, name: &str) -> Result<Plan, Stop>
-    requires named { (1 ≤ length name.now) × (length name.now ≤ 255) }
-    ensures files { S.files shelf.new ≡ S.files shelf.old }
-    ensures plan { IfOk result (λ plan. IfSome (S.files shelf.old) (λ files. read_in files name.now plan_of ≡ Ok plan)) }
-    ensures limits { IfOk result (λ plan. IsWithinLimits plan.tensor) }
-    ensures quiet { OnOk result (S.faults shelf.new ≡ S.faults shelf.old) }
-    ensures stop { IfErr result (IsReadStop (seen (S.files shelf.old) (S.faults shelf.old) (S.faults shelf.new) (S.blamed shelf.new)) name.now (λ files. read_in files name.now plan_of)) }
+/// Reads the items of a manifest.
+fn read_items<S: Shelf>(alloc: Global, shelf: &mut S, manifest: &FileName) -> Result<Manifest, Stop>
+    ensures quiet { OnOk result (IsQuiet (S.state shelf.old) (S.state shelf.new)) }
+    ensures items { IfOk result (λ items. HoldsOf (S.state shelf.old).files (λ files. items_in files manifest.now ≡ Ok items)) }
+    ensures sound { IfOk result (AreSound nothing_declared) }
+    ensures files { (S.state shelf.new).files ≡ (S.state shelf.old).files }
+    ensures stop { IfErr result (IsFileStop (S.state shelf.old) (S.state shelf.new) (Some manifest.now) (λ files. items_in files manifest.now)) }
 {
-    let text = fetch(alloc, shelf, name)?;
-    match read_manifest(text.as_slice()) {
-        Ok(plan) => Ok(plan),
-        Err(line) => Err(not_built(FileName::new(name), line)),
+    let text = fetch(alloc, shelf, manifest)?;
+    match read_manifest(alloc, text.as_slice()) {
+        Ok(items) => Ok(items),
+        Err(fault) => Err(stop_in(manifest, fault)),
     }
 }
 
-/// Reads the verdicts of a plan's script.
-fn read_verdicts<S: Shelf>(alloc: Global, shelf: &mut S, plan: &Plan) -> Result<Verdicts, Stop>
-    requires limits { IsWithinLimits plan.now.tensor }
-    ensures files { S.files shelf.new ≡ S.files shelf.old }
-    ensures verdicts { IfOk result (λ verdicts. IfSome (S.files shelf.old) (λ files. read_in files plan.now.file (script_of plan.now.tensor) ≡ Ok verdicts)) }
-    ensures session { IfOk result (λ verdicts. IsOneSession (world_of plan.now.tensor verdicts) verdicts) }
-    ensures stop { IfErr result (IsReadStop (seen (S.files shelf.old) (S.faults shelf.old) (S.faults shelf.new) (S.blamed shelf.new)) plan.now.file (λ files. read_in files plan.now.file (script_of plan.now.tensor))) }
+/// Reads the lines of a file into a tensor.
+fn load<S: Shelf>(
+    alloc: Global,
+    shelf: &mut S,
+    gathering: &mut Gathering,
+    name: &Name,
+    file: &FileName,
+) -> Result<(), Stop>
+    requires runnable { IsRunnable (work_of gathering.old).world gathering.old.printed }
+    requires declared { tensor_number (decls_of gathering.old) name.now < length gathering.old.tensors }
+    ensures quiet { OnOk result (IsQuiet (S.state shelf.old) (S.state shelf.new)) }
+    ensures lines { OnOk result (HoldsOf (S.state shelf.old).files (λ files. loaded files gathering.old name.now file.now ≡ Ok gathering.new)) }
+    ensures files { (S.state shelf.new).files ≡ (S.state shelf.old).files }
+    ensures stop { IfErr result (IsFileStop (S.state shelf.old) (S.state shelf.new) (Some file.now) (λ files. loaded files gathering.old name.now file.now)) }
 {
-    let text = fetch(alloc, shelf, plan.file.as_str())?;
-    match read_script(alloc, &plan.tensor, text.as_slice()) {
-        Ok(verdicts) => Ok(verdicts),
-        Err(ScriptFault::NotBuilt(line)) => {
-            Err(not_built(FileName::new(plan.file.as_str()), line))
+    let text = fetch(alloc, shelf, file)?;
+    let tensor = gathering.tensor_number(name);
+    let most = gathering.lines_left();
+    let read = read_tns(alloc, text.as_slice(), gathering.dims(tensor), most);
+    drop(text);
+    match read {
+        Ok(lines) => Ok(gathering.add_lines(tensor, lines)?),
+        Err(fault) => Err(stop_in(file, fault)),
+    }
+}
+
+/// Reads the script of a session.
+fn add_session<S: Shelf>(
+    alloc: Global,
+    shelf: &mut S,
+    gathering: &mut Gathering,
+    file: &FileName,
+) -> Result<(), Stop>
+    requires runnable { IsRunnable (work_of gathering.old).world gathering.old.printed }
+    ensures quiet { OnOk result (IsQuiet (S.state shelf.old) (S.state shelf.new)) }
+    ensures script { OnOk result (HoldsOf (S.state shelf.old).files (λ files. with_session files gathering.old file.now ≡ Ok gathering.new)) }
+    ensures files { (S.state shelf.new).files ≡ (S.state shelf.old).files }
+    ensures stop { IfErr result (IsFileStop (S.state shelf.old) (S.state shelf.new) (Some file.now) (λ files. with_session files gathering.old file.now)) }
+{
+    let text = fetch(alloc, shelf, file)?;
+    if gathering.script_bytes() + text.len() as u64 > FILE_LIMIT {
+        return Err(Stop::Refused(too_large(file)));
+    }
+    let most = gathering.lines_left();
+    let read = read_script(alloc, gathering.decls(), text.as_slice(), most);
+    match read {
+        Ok(script) => Ok(gathering.add_script(text.len(), script)?),
+        Err(fault) => Err(stop_in(file, fault)),
+    }
+}
+
+/// Whether each of some schemas is `flat`.
+fn are_flat(names: &[Name]) -> bool
+    ensures value { result ≡ list_all is_flat names.now }
+{
+    names.iter().all(|name| name.bytes() == FLAT)
+}
+
+/// Reads what an item of the manifest brings.
+fn add_item<S: Shelf>(
+    alloc: Global,
+    shelf: &mut S,
+    manifest: &FileName,
+    gathering: &mut Gathering,
+    line: u32,
+    item: &Item,
+) -> Result<(), Stop>
+    requires may_follow { CanAdd gathering.old item.now }
+    ensures quiet { OnOk result (IsQuiet (S.state shelf.old) (S.state shelf.new)) }
+    ensures item { OnOk result (HoldsOf (S.state shelf.old).files (λ files. with_item files manifest.now gathering.old line item.now ≡ Ok gathering.new)) }
+    ensures files { (S.state shelf.new).files ≡ (S.state shelf.old).files }
+    ensures stop { IfErr result (IsFileStop (S.state shelf.old) (S.state shelf.new) (file_of item.now) (λ files. with_item files manifest.now gathering.old line item.now)) }
+{
+    match item {
+        Item::Schema { .. } => Ok(()),
+        Item::Tensor {
+            name,
+            dims,
+            formats,
+            latches,
+        } => {
+            if !are_flat(formats.as_slice()) {
+                let cause = FileCause::Name;
+                return Err(Stop::Refused(fault_in(manifest, FileFault { line, cause })));
+            }
+            Ok(gathering.add_tensor(alloc, name, dims, *latches)?)
         }
-        Err(ScriptFault::NoMemory) => Err(Stop::NoMemory),
+        Item::Load { name, file } => load(alloc, shelf, gathering, name, file),
+        Item::Session { file } => add_session(alloc, shelf, gathering, file),
+        Item::Print { name } => Ok(gathering.add_print(name)?),
     }
 }
 
-/// The schema `flat`, which has number 0.
-fn flat() -> Schema
-    ensures value { result ≡ flat }
+/// Reads what the items of a manifest bring, in their order.
+fn add_items<S: Shelf>(
+    alloc: Global,
+    shelf: &mut S,
+    manifest: &FileName,
+    items: &Manifest,
+) -> Result<Gathering, Stop>
+    requires sound { AreSound nothing_declared items.now }
+    requires items { HoldsOf (S.state shelf.old).files (λ files. items_in files manifest.now ≡ Ok items.now) }
+    ensures quiet { OnOk result (IsQuiet (S.state shelf.old) (S.state shelf.new)) }
+    ensures gathered { IfOk result (λ g. IfSome (S.state shelf.old).files (λ files. with_items files manifest.now nothing items.now ≡ Ok g)) }
+    ensures runnable { IfOk result (λ g. IsRunnable (work_of g).world g.printed) }
+    ensures files { (S.state shelf.new).files ≡ (S.state shelf.old).files }
+    ensures stop { IfErr result (IsStop (S.state shelf.old) (S.state shelf.new) manifest.now (λ files. with_items files manifest.now nothing items.now)) }
 {
-    let mut kinds = ArrayVec::new();
-    kinds.push(Kind {
-        name: flat_name(),
-        lo: 1,
-        hi: 16,
-        links: Links::Flat,
-    });
-    Schema {
-        name: flat_name(),
-        kinds,
-        root: flat_name(),
+    let mut gathering = Gathering::new(alloc)?;
+    for item in items.as_slice() {
+        add_item(alloc, shelf, manifest, &mut gathering, item.0, &item.1)?;
     }
+    Ok(gathering)
 }
 
-fn flat_name() -> Name
-    ensures value { result ≡ codes "flat" }
+/// Reads the workload of a manifest: a world, and the numbers of the tensors to print after its run.
+pub fn read_workload<S: Shelf>(
+    alloc: Global,
+    shelf: &mut S,
+    manifest: &FileName,
+) -> Result<(World, Vec<u32>), Stop>
+    ensures work { IfOk result (λ w. IfSome (S.state shelf.old).files (λ files. workload files manifest.now ≡ Ok (record { world = w.0; printed = w.1.items }))) }
+    ensures runnable { IfOk result (λ w. IsRunnable w.0 w.1.items) }
+    ensures files { (S.state shelf.new).files ≡ (S.state shelf.old).files }
+    ensures stop { IfErr result (IsStop (S.state shelf.old) (S.state shelf.new) manifest.now (λ files. workload files manifest.now)) }
 {
-    match Name::new(b"flat") {
-        Some(name) => name,
-        None => unreachable!(),
-    }
-}
-
-fn declare(tensor: FlatTensor) -> TensorDecl
-    ensures value { result ≡ decl_of tensor }
-{
-    let mut dims = Coords::new();
-    dims.push(tensor.dim);
-    let mut formats = ArrayVec::new();
-    formats.push(0);
-    TensorDecl {
-        name: tensor.name,
-        dims,
-        formats,
-        latches: tensor.latches,
-    }
-}
-
-fn list_of<T>(alloc: Global, item: T) -> Result<Listed<T>, NoMemory>
-where
-    T: Drop,
-    ensures value { IfOk result (λ list. list ≡ item ∷ []) }
-{
-    let mut list = Listed::new(alloc);
-    match list.push(item) {
-        Ok(()) => Ok(list),
-        Err(_) => Err(NoMemory),
-    }
-}
-
-fn make_world(alloc: Global, tensor: FlatTensor, verdicts: Verdicts) -> Result<World, NoMemory>
-    ensures value { IfOk result (λ world. world ≡ world_of tensor verdicts) }
-{
-    Ok(World {
-        decls: Decls {
-            schemas: list_of(alloc, flat())?,
-            tensors: list_of(alloc, declare(tensor))?,
-        },
-        base: list_of(alloc, Pairs::new(alloc))?,
-        scripts: list_of(alloc, verdicts)?,
-    })
-}
-
-/// Reads the workload of a manifest, which comes to a world without tensors to print.
-pub fn read_world<S: Shelf>(alloc: Global, shelf: &mut S, name: &str) -> Result<World, Stop>
-    requires named { (1 ≤ length name.now) × (length name.now ≤ 255) }
-    ensures files { S.files shelf.new ≡ S.files shelf.old }
-    ensures asked { IfOk result (λ w. IfSome (S.files shelf.old) (λ files. workload files name.now ≡ Ok (record { world = w; printed = [] }))) }
-    ensures session { IfOk result (λ w. IsOneSession w (first_script w)) }
-    ensures stop { IfErr result (IsStop (seen (S.files shelf.old) (S.faults shelf.old) (S.faults shelf.new) (S.blamed shelf.new)) name.now) }
-{
-    let plan = read_plan(alloc, shelf, name)?;
-    let verdicts = read_verdicts(alloc, shelf, &plan)?;
-    match make_world(alloc, plan.tensor, verdicts) {
-        Ok(world) => Ok(world),
-        Err(NoMemory) => Err(Stop::NoMemory),
-    }
+    let items = read_items(alloc, shelf, manifest)?;
+    let gathering = add_items(alloc, shelf, manifest, &items)?;
+    Ok(gathering.into_work())
 }

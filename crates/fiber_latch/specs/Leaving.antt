@@ -17,6 +17,6 @@ pub record HasAll {C : Type 0} (end : ℕ) (slots : List (Option (SlotValue C)))
   pub journal : (j : JournalValue) × HasValue slots end (Journal j)
 
 -- the stores are those that the first slots hold, in their order
-pub record TakenOut {C : Type 0} (n : ℕ) (slots : List (Option (SlotValue C))) (stores : List C) : Type 0 where
+pub record AreFromSlots {C : Type 0} (n : ℕ) (slots : List (Option (SlotValue C))) (stores : List C) : Type 0 where
   pub count : length stores ≡ n
   pub each : (l : ℕ) (d : C) → l < n → HasValue slots l (Fiber (slice_index_or stores l d))

@@ -1,10 +1,9 @@
 pub mod Views
 pub mod Rule
-pub mod Made
 pub mod Steps
+pub mod Kinds
 pub mod Conditions
 pub mod Openings
-pub mod Latch
 pub mod Seats
 pub mod Sitting
 pub mod Leaving

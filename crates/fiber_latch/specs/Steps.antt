@@ -1,5 +1,5 @@
 -- What each kind of atomic step does to the seat that makes it, and tells it.
-use Rattle.std.specs.Prelude.{◌≡◌, ◌≢◌, ℕ, ◌-◌, ◌≤◌, ◌==◌, List, [], ◌∷◌, ◌++◌, Bool, true, false, Option, Some, None}
+use Rattle.std.specs.Prelude.{drop, ◌≡◌, ◌≢◌, ℕ, ◌-◌, ◌≤◌, ◌==◌, List, [], ◌∷◌, ◌++◌, Bool, true, false, Option, Some, None}
 use Rattle.atomic_table.specs.Table.{Me, Step, rest}
 use Rattle.dt_model.specs.declared.calls.Call.TheVariants.{Get}
 use Rattle.dt_model.specs.declared.calls.Entry.{Entry}
@@ -8,14 +8,13 @@ use Rattle.fiber_latch.specs.declared.view.Mark.TheVariants.{Opened, Taken, Kept
 use Rattle.fiber_latch.specs.declared.view.Hold.{Hold}
 use Rattle.fiber_latch.specs.declared.view.Role.{Role}
 use Rattle.fiber_latch.specs.declared.view.Role.TheVariants.{Spent, Pass, Sessions}
-use Rattle.fiber_latch.specs.declared.view.Terms.{Terms}
+use Rattle.fiber_latch.specs.declared.view.TableConfig.{TableConfig}
 use Rattle.fiber_latch.specs.declared.view.View.{View}
 use Rattle.fiber_latch.specs.declared.view.TableName.{TableName}
 use Rattle.fiber_latch.specs.declared.rule.Kept as kept
 use Rattle.fiber_latch.specs.declared.rule.SlotValue.{SlotValue}
-use Rattle.fiber_latch.specs.Views.{id_of, Begins, OwnsAs, Lawful, hold, behind, pass_view}
-use Rattle.fiber_latch.specs.Rule.{OldsOk}
-use Rattle.fiber_latch.specs.Made.{MadeTake, FoundHeld, MadeCommit, MadeGive}
+use Rattle.fiber_latch.specs.Views.{id_of, Owns, IsLawful, hold, pass_view}
+use Rattle.fiber_latch.specs.Rule.{IsLastJoin}
 
 -- ---- take and give
 
@@ -23,11 +22,13 @@ use Rattle.fiber_latch.specs.Made.{MadeTake, FoundHeld, MadeCommit, MadeGive}
 abbrev pub listed : View → ℕ → ℕ → Mark → List Hold → View
 listed v l s m hs = record v { held = hold l s m ∷ hs }
 
--- a take tells the slot's value and pass and that the machine may take it, or the session that it found, which is none of the seat's
-abbrev pub Takes : {C : Type 0} → (Terms → List Entry → ℕ → kept.Kept C → Type 0) → Step (Option (SlotValue C)) → Me (Option (SlotValue C)) View → ℕ → Me (Option (SlotValue C)) View → Type 0
-Takes {C} good st me n me' =
-    (n ≡ 0 → (y : SlotValue C) × (u : View) × ((me' ≡ (listed me.0 st.word st.second Taken me.0.held, (st.word, Some y) ∷ me.1)) × (y.pass.views ≡ u ∷ []) × (y.pass.table_id ≡ id_of me.0.table) × (u.role ≡ Pass st.word) × good me.0.terms u.seen st.word y.kept × ((made : MadeTake me.0.terms me.0.seen st.second st.word) × Begins u.seen made.before.history)))
-    × (n ≢ 0 → (me' ≡ (record me.0 { met = me.0.met ++ (st.word, n) ∷ [] }, me.1)) × (¬ OwnsAs me.0.role n) × (n ≤ me.0.terms.sessions) × FoundHeld me.0.terms me.0.seen n st.word)
+-- a try gives the slot's value and its pass where it found 0; else it found a session of the table's, none of the seat's own, and notes it
+abbrev pub TriesLatch : {C : Type 0} → (TableConfig → List Entry → ℕ → kept.Kept C → Type 0) → Step (Option (SlotValue C)) → Me (Option (SlotValue C)) View
+    → ℕ → Me (Option (SlotValue C)) View → Type 0
+TriesLatch {C} good st me n me' =
+    (n ≡ 0 → (y : SlotValue C) × (u : View) × ((me' ≡ (listed me.0 st.word st.second Taken me.0.held, (st.word, Some y) ∷ me.1)) × (y.pass.views ≡ u ∷ [])
+    × (y.pass.table_id ≡ id_of me.0.table) × (u.role ≡ Pass st.word) × good me.0.config u.seen st.word y.kept))
+    × (n ≢ 0 → (me' ≡ (record me.0 { conflicts = me.0.conflicts ++ (st.word, n) ∷ [] }, me.1)) × (¬ Owns me.0.role n) × (n ≤ me.0.config.sessions))
 
 -- the latch that was taken last
 abbrev pub head_hold : List Hold → Hold
@@ -38,9 +39,9 @@ head_hold (h ∷ hs) = h
 abbrev pub top_session : View → ℕ
 top_session v = (head_hold v.held).session
 
--- the latch that was taken last is listed no more, and the machine may give it back
-abbrev pub Gives : {C : Type 0} → Step (Option (SlotValue C)) → Me (Option (SlotValue C)) View → ℕ → Me (Option (SlotValue C)) View → Type 0
-Gives st me n me' = (me' ≡ (record me.0 { held = behind me.0.held }, rest me.1)) × MadeGive me.0.terms me.0.seen (top_session me.0) st.word
+-- the latch that was taken last is listed no more
+abbrev pub ReturnsLatch : {C : Type 0} → Step (Option (SlotValue C)) → Me (Option (SlotValue C)) View → ℕ → Me (Option (SlotValue C)) View → Type 0
+ReturnsLatch st me n me' = me' ≡ (record me.0 { held = drop 1 me.0.held }, rest me.1)
 
 -- ---- meet, part and look
 
@@ -51,21 +52,26 @@ longer (x ∷ xs) [] = x ∷ xs
 longer (x ∷ xs) (y ∷ ys) = x ∷ longer xs ys
 
 -- the latch that was taken last gets this mark
-abbrev pub retop : Mark → List Hold → List Hold
-retop m [] = []
-retop m (h ∷ hs) = hold h.latch h.session m ∷ hs
+abbrev pub mark_top : Mark → List Hold → List Hold
+mark_top m [] = []
+mark_top m (h ∷ hs) = hold h.latch h.session m ∷ hs
 
 -- the seat takes in the pass of the latch that it took last
-abbrev pub met_pass : View → View → View
-met_pass v u = record v { held = retop Kept v.held; seen = longer v.seen u.seen; olds = Some (record { mine = v.seen; was = v.role; theirs = u.seen; other = u.role }) }
+abbrev pub with_pass : View → View → View
+with_pass v u = record v {
+  held = mark_top Kept v.held;
+  seen = longer v.seen u.seen;
+  last_join = Some
+      (record { mine = v.seen; was = v.role; theirs = u.seen; other = u.role });
+}
 
 -- a look at the clock tells what the last join met, and that what was seen is legal
-abbrev pub Looks : {C : Type 0} → Step (Option (SlotValue C)) → Me (Option (SlotValue C)) View → ℕ → Me (Option (SlotValue C)) View → Type 0
-Looks st me n me' = (me' ≡ (record me.0 { olds = None }, me.1)) × (OldsOk me.0.terms me.0 me.0.olds × Lawful me.0.terms me.0.seen)
+abbrev pub ReadsClock : {C : Type 0} → Step (Option (SlotValue C)) → Me (Option (SlotValue C)) View → ℕ → Me (Option (SlotValue C)) View → Type 0
+ReadsClock st me n me' = (me' ≡ (record me.0 { last_join = None }, me.1)) × (IsLastJoin me.0.config me.0 me.0.last_join × IsLawful me.0.config me.0.seen)
 
 -- nothing is left to be told of the last join
-abbrev pub settled : View → View
-settled v = record v { olds = None }
+abbrev pub without_join : View → View
+without_join v = record v { last_join = None }
 
 -- the number of the latch that was taken last
 abbrev pub top_latch : List Hold → ℕ
@@ -73,18 +79,18 @@ top_latch [] = 0
 top_latch (h ∷ hs) = h.latch
 
 -- the seat parts with the latch that it took last, and its new pass has what the seat has seen
-abbrev pub parted : View → View
-parted v = record v { held = retop (Parted v.seen) v.held }
+abbrev pub without_pass : View → View
+without_pass v = record v { held = mark_top (Parted v.seen) v.held }
 
 -- the pass that a seat parts with: of the latch that was taken last, with what the seat has seen
-abbrev pub new_pass : View → View
-new_pass v = pass_view v.table v.terms (top_latch v.held) v.seen
+abbrev pub top_pass : View → View
+top_pass v = pass_view v.table v.config (top_latch v.held) v.seen
 
 -- ---- commit
 
--- one entry more is seen, and the machine may commit it
-abbrev pub Commits : {C : Type 0} → Entry → Step (Option (SlotValue C)) → Me (Option (SlotValue C)) View → ℕ → Me (Option (SlotValue C)) View → Type 0
-Commits e st me n me' = (me' ≡ (record me.0 { seen = me.0.seen ++ e ∷ [] }, me.1)) × MadeCommit me.0.terms me.0.seen e
+-- one entry more is seen
+abbrev pub AddsEntry : {C : Type 0} → Entry → Step (Option (SlotValue C)) → Me (Option (SlotValue C)) View → ℕ → Me (Option (SlotValue C)) View → Type 0
+AddsEntry e st me n me' = me' ≡ (record me.0 { seen = me.0.seen ++ e ∷ [] }, me.1)
 
 -- an entry that is asked for nowhere, to stand where none is picked
 abbrev pub no_entry : Entry
@@ -105,12 +111,12 @@ high_part a (Pass w) = Pass w
 high_part a (Sessions f t) = Sessions a t
 
 -- the sessions from a on go to a new seat
-abbrev pub lower : ℕ → View → View
-lower a v = record v { role = low_part a v.role }
+abbrev pub lower_view : ℕ → View → View
+lower_view a v = record v { role = low_part a v.role }
 
 -- the new seat has them, has seen the same, and holds nothing
-abbrev pub upper : ℕ → View → View
-upper a v = record v { role = high_part a v.role; held = []; met = []; olds = None }
+abbrev pub upper_view : ℕ → View → View
+upper_view a v = record v { role = high_part a v.role; held = []; conflicts = []; last_join = None }
 
 -- the sessions of both, where the second follow the first
 abbrev pub joined_role : Role → Role → Role
@@ -118,8 +124,14 @@ joined_role (Sessions f t) (Sessions g u) = Sessions f u
 joined_role r q = r
 
 -- the seat of the sessions that follow is taken in
-abbrev pub joined : View → View → View
-joined v u = record v { role = joined_role v.role u.role; seen = longer v.seen u.seen; met = v.met ++ u.met; olds = Some (record { mine = v.seen; was = v.role; theirs = u.seen; other = u.role }) }
+abbrev pub joined_view : View → View → View
+joined_view v u = record v {
+  role = joined_role v.role u.role;
+  seen = longer v.seen u.seen;
+  conflicts = v.conflicts
+      ++ u.conflicts;
+  last_join = Some (record { mine = v.seen; was = v.role; theirs = u.seen; other = u.role });
+}
 
 -- ---- opening
 
@@ -134,9 +146,9 @@ keep_at l [] = []
 keep_at l (h ∷ hs) = keep_if (h.latch == l) h ∷ keep_at l hs
 
 -- the empty slot of a latch that was opened comes into the seat's hand
-abbrev pub Opens : {C : Type 0} → Step (Option (SlotValue C)) → Me (Option (SlotValue C)) View → ℕ → Me (Option (SlotValue C)) View → Type 0
-Opens st me n me' = me' ≡ (record me.0 { held = keep_at st.word me.0.held }, (st.word, None) ∷ me.1)
+abbrev pub OpensSlot : {C : Type 0} → Step (Option (SlotValue C)) → Me (Option (SlotValue C)) View → ℕ → Me (Option (SlotValue C)) View → Type 0
+OpensSlot st me n me' = me' ≡ (record me.0 { held = keep_at st.word me.0.held }, (st.word, None) ∷ me.1)
 
 -- the first seat learns which table it is
-abbrev pub Learns : {C : Type 0} → TableName → Step (Option (SlotValue C)) → Me (Option (SlotValue C)) View → ℕ → Me (Option (SlotValue C)) View → Type 0
-Learns z st me n me' = me' ≡ (record me.0 { fresh = false; table = z }, me.1)
+abbrev pub LearnsTable : {C : Type 0} → TableName → Step (Option (SlotValue C)) → Me (Option (SlotValue C)) View → ℕ → Me (Option (SlotValue C)) View → Type 0
+LearnsTable z st me n me' = me' ≡ (record me.0 { fresh = false; table = z }, me.1)

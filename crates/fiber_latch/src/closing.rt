@@ -5,7 +5,7 @@ ghost use Rattle.std.specs.Mem.Slots.{slots_items, slots_filled, slots_len, IsFu
 ghost use Rattle.dt_model.specs.JournalValue.{JournalValue};
 ghost use Rattle.fiber_latch.specs.declared.rule.Kept.TheVariants as held;
 ghost use Rattle.fiber_latch.specs.declared.rule.SlotValue.{SlotValue};
-ghost use Rattle.fiber_latch.specs.Leaving.{HasValue, HasAll, TakenOut};
+ghost use Rattle.fiber_latch.specs.Leaving.{HasValue, HasAll, AreFromSlots};
 
 use crate::rule::{Kept, SlotValue};
 use atomic_table::Closed as ClosedTable;
@@ -35,8 +35,10 @@ impl<C> Closed<C> {
     }
 }
 
+/// The slots of a closed table.
 type Emptied<C> = ClosedTable<Option<SlotValue<C>>, Global>;
 
+/// The value in a slot, without its pass.
 fn value_in<C: Drop>(slot: Option<SlotValue<C>>) -> Kept<C>
     requires held { (z : SlotValue C) × (slot ≡ Some z) }
     ensures value { (z : SlotValue C) × (slot ≡ Some z) × (z.kept ≡ result) }
@@ -47,6 +49,7 @@ fn value_in<C: Drop>(slot: Option<SlotValue<C>>) -> Kept<C>
     kept
 }
 
+/// The store in a fiber's slot.
 fn store_in<C: Drop>(slot: Option<SlotValue<C>>) -> C
     requires held { (z : SlotValue C) × (c : C) × (slot ≡ Some z) × (z.kept ≡ held.Fiber c) }
     ensures value { (z : SlotValue C) × (slot ≡ Some z) × (z.kept ≡ held.Fiber result) }
@@ -57,6 +60,7 @@ fn store_in<C: Drop>(slot: Option<SlotValue<C>>) -> C
     store
 }
 
+/// The journal in its slot.
 fn journal_in<C: Drop>(slot: Option<SlotValue<C>>) -> Journal
     requires held { (z : SlotValue C) × (j : JournalValue) × (slot ≡ Some z) × (z.kept ≡ held.Journal j) }
     ensures value { (z : SlotValue C) × (slot ≡ Some z) × (z.kept ≡ held.Journal result) }
@@ -67,7 +71,7 @@ fn journal_in<C: Drop>(slot: Option<SlotValue<C>>) -> Journal
     journal
 }
 
-// Takes the stores out of the first slots, in ascending order.
+/// Takes the stores out of the first slots, in ascending order.
 fn take_stores<C: Drop>(slots: &mut Emptied<C>, end: u32, mut stores: Vec<C>) -> Vec<C>
     requires sized { slots_len slots.old.slots ≡ end + 1 }
     requires full { IsFull slots.old.slots }
@@ -75,7 +79,7 @@ fn take_stores<C: Drop>(slots: &mut Emptied<C>, end: u32, mut stores: Vec<C>) ->
     requires room { (vec_len stores ≡ 0) × (end ≤ vec_capacity stores) }
     ensures same { (slots_items slots.new.slots ≡ slots_items slots.old.slots) × (slots_len slots.new.slots ≡ end + 1) }
     ensures left { ((k : ℕ) → k < end → slice_index_or (slots_filled slots.new.slots) k false ≡ false) × IsTrue (slice_index_or (slots_filled slots.new.slots) end false) }
-    ensures value { TakenOut end (slots_items slots.old.slots) result.items }
+    ensures value { AreFromSlots end (slots_items slots.old.slots) result.items }
 {
     for latch in 0..end {
         let store = store_in(slots.take(latch as usize));
@@ -85,13 +89,13 @@ fn take_stores<C: Drop>(slots: &mut Emptied<C>, end: u32, mut stores: Vec<C>) ->
     stores
 }
 
-// Takes out all, and frees the table.
+/// Takes out all, and frees the table.
 pub fn emptied<C: Drop>(mut slots: Emptied<C>, end: u32, stores: Vec<C>) -> Closed<C>
     requires sized { slots_len slots.slots ≡ end + 1 }
     requires full { IsFull slots.slots }
     requires values { HasAll end (slots_items slots.slots) }
     requires room { (vec_len stores ≡ 0) × (end ≤ vec_capacity stores) }
-    ensures stores { TakenOut end (slots_items slots.slots) result.stores.items }
+    ensures stores { AreFromSlots end (slots_items slots.slots) result.stores.items }
     ensures journal { HasValue (slots_items slots.slots) end (held.Journal result.journal) }
 {
     let stores = take_stores(&mut slots, end, stores);

@@ -1,4 +1,4 @@
-//! The rule of the table.
+//! What lies in the table, and the rule that it keeps between any two steps.
 use crate::view::View;
 use atomic_table::{Badge, TableRule};
 use dt_model::{Journal, Keep, World};
@@ -17,7 +17,9 @@ pub enum Kept<C> {
 /// What lies in a latch's slot: a value, and beside it the latch's pass.
 #[derive(Drop)]
 pub struct SlotValue<C> {
+    /// The store or the journal.
     pub kept: Kept<C>,
+    /// What the seat that gave it back had seen.
     pub pass: Badge<View>,
 }
 
@@ -33,9 +35,13 @@ pub struct Busy {
 /// What the table is opened for. `end` is the number of the journal's latch.
 #[derive(Drop)]
 pub struct TableKey {
+    /// The declarations, and what is loaded.
     pub world: Snapshot<World>,
+    /// The number of the journal's latch.
     pub end: u64,
+    /// Sessions 1 to this one.
     pub sessions: u64,
+    /// How many calls each session has at most.
     pub calls: u64,
 }
 
@@ -45,11 +51,11 @@ pub struct LatchRule<C> {
 }
 
 impl<C: Keep> TableRule<Option<SlotValue<C>>, View, TableKey> for LatchRule<C> {
-    ghost use Rattle.fiber_latch.specs.Rule.{Ruled, Good};
-    ghost use Rattle.fiber_latch.specs.Conditions.{terms_of};
+    ghost use Rattle.fiber_latch.specs.Rule.{KeepsRule, Good};
+    ghost use Rattle.fiber_latch.specs.Conditions.{config_of};
     ghost use Rattle.fiber_latch.specs.Openings.{first_view};
 
-    ghost holds = { λ key. Ruled (terms_of key) (Good C.content C.sound (terms_of key)) };
+    ghost holds = { λ key. KeepsRule (config_of key) (Good C.content C.sound (config_of key)) };
 
-    ghost first = { λ key. first_view (terms_of key) };
+    ghost first = { λ key. first_view (config_of key) };
 }

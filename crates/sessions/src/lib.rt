@@ -10,5 +10,7 @@
 #![tactic(auto)]
 
 mod plain;
+#[cfg(test)]
+mod tests;
 
 pub use plain::Plain;

@@ -1,20 +1,26 @@
-ghost use Rattle.std.specs.Prelude.{◌≡◌, ◌<◌, ◌≤◌, [], ◌∷◌, ◌++◌, length, IfOk, OnOk, OnErr, IfErr, Some};
-ghost use Rattle.dt_model.specs.declared.declared_tensors.Decls.{Decls};
-ghost use Rattle.dt_model.specs.declared.replies.World.{World};
-ghost use Rattle.dt_model.specs.Calls.{IsNoGet, IsWithin};
-ghost use Rattle.dt_model.specs.Runs.{after_call, reply_to, reply_of, fold_of};
-ghost use Rattle.commit_core.specs.Cells.{contents_of};
-ghost use Rattle.commit_core.specs.Roomy.{all_cells};
-ghost use Rattle.sessions.specs.Running.{IsRunOf, IsNoQuery, IsPlain};
+//! A run of calls on one thread.
 
-use commit_core::{CellList, apply_all, loaded, number_at, reserve_all};
-use dt_model::{Back, Call, Entry, Journal, NoMemory, Reply, Turn, World};
+ghost use Rattle.std.specs.Prelude.{◌≡◌, ◌<◌, ◌≤◌, [], ◌∷◌, ◌++◌, ℕ, length, All, IsTrue, IfOk, OnOk, OnErr, IfErr, Some};
+ghost use Rattle.dt_model.specs.declared.replies.World.{World};
+ghost use Rattle.dt_model.specs.Calls.{IsNoGet};
+ghost use Rattle.dt_model.specs.Runs.{reply_to, reply_of_entry, contents_after};
+ghost use Rattle.dt_model.specs.Statements.{all_below, nonzeros};
+ghost use Rattle.dt_model.specs.Tensors.{dims_of};
+ghost use Rattle.dt_model.specs.Verdicts.{call_is_valid};
+ghost use Rattle.dt_model.specs.Worlds.{IsValid};
+ghost use Rattle.commit_core.specs.Cells.{cells_of, without_zeros};
+ghost use Rattle.commit_core.specs.Orders.{IsCallOf};
+ghost use Rattle.sessions.specs.RunState.{IsRunOf, IsNoQuery, IsPlain, reply_from};
+
+use commit_core::{CellList, load_base, make_call};
+use dt_model::{Back, Call, Entry, Journal, NoMemory, Nonzeros, Reply, Turn, World};
 use std::alloc::Global;
 use std::marker::Model;
 
 /// A run of calls on one thread: each tensor's cells as one ascending list, and the journal.
 #[derive(Drop)]
 pub struct Plain {
+    alloc: Global,
     tensors: Vec<CellList>,
     journal: Journal,
     last: u32,
@@ -25,51 +31,42 @@ impl Model for Plain {
     ghost use Rattle.std.specs.Prelude.{◌≡◌, ◌+◌, ◌≤◌, length};
     ghost use Rattle.dt_model.specs.contracts.calls.Entry as entry;
     ghost use Rattle.std.specs.Coded.{codes};
-    ghost use Rattle.commit_core.specs.Roomy.{all_cells};
-    ghost use Rattle.sessions.specs.Running.{Running};
+    ghost use Rattle.commit_core.specs.CellListState.{all_cells, all_orders};
+    ghost use Rattle.sessions.specs.RunState.{RunState};
 
-    ghost Value = { Running };
+    ghost Value = { RunState };
 
     ghost coded = { Prim.hlevel (codes, entry.the_row.coded) };
 
-    ghost view = { λ p. record { tensors = all_cells p.tensors.items; entries = p.journal.entries; last = p.last; calls = p.calls } };
+    ghost view = { λ p. record { orders = all_orders p.tensors.items; tensors = all_cells p.tensors.items; entries = p.journal.entries; last = p.last; calls = p.calls } };
 
     ghost invariant = { λ p. (length p.journal.entries ≤ p.last) × (length p.journal.entries + p.journal.spare ≡ p.calls) };
 }
 
-/// The reply to a call, whose updates are made.
-fn answer(tensors: &mut [CellList], call: &Call) -> Result<Reply, NoMemory>
-    requires no_query { IsNoQuery call.now }
-    requires within { IsWithin (length tensors.old) call.now }
-    ensures contents { OnOk result (contents_of (all_cells tensors.new) ≡ after_call (contents_of (all_cells tensors.old)) call.now) }
-    ensures reply { IfOk result (λ r. (d : Decls) → reply_to d (contents_of (all_cells tensors.old)) call.now ≡ r) }
-    ensures err { OnErr result (all_cells tensors.new ≡ all_cells tensors.old) }
-    ensures get { OnErr result (IsNoGet call.now) }
-    ensures plain { IfOk result (λ r. IsPlain (Some r)) }
+/// The reply of a call that read a number, or nothing.
+fn reply_from(read: Option<u64>) -> Reply
+    ensures value { result ≡ reply_from read }
+    ensures plain { IsPlain (Some result) }
 {
-    match call {
-        Call::Get(cell) => Ok(Reply::Value(number_at(tensors, cell.tensor as usize, &cell.at))),
-        Call::Batch(updates) => {
-            if reserve_all(tensors, updates.len()).is_err() {
-                return Err(NoMemory);
-            }
-            apply_all(tensors, updates.as_slice());
-            Ok(Reply::Done)
-        }
-        Call::Query(_) => unreachable!(),
+    match read {
+        Some(value) => Reply::Value(value),
+        None => Reply::Done,
     }
 }
 
 impl Plain {
-    /// A run at its beginning: the world's loaded lines, and room for so many entries.
+    /// A run at its beginning: the world's loaded lines, and room for so many entries. The lines of a
+    /// tensor that don't ascend are sorted once; no line is inserted by itself.
     pub fn open(alloc: Global, world: &World, calls: u32) -> Result<Plain, NoMemory>
+        requires valid { IsValid world.now }
         ensures run { IfOk result (λ p. IsRunOf world.now p) }
         ensures entries { IfOk result (λ p. p.entries ≡ []) }
         ensures last { IfOk result (λ p. p.last ≡ 0) }
         ensures calls { IfOk result (λ p. p.calls ≡ calls) }
     {
-        let tensors = loaded(alloc, world.base.as_slice())?;
+        let tensors = load_base(alloc, world)?;
         Ok(Plain {
+            alloc,
             tensors,
             journal: Journal::with_room(alloc, calls)?,
             last: 0,
@@ -77,30 +74,31 @@ impl Plain {
         })
     }
 
-    /// Makes a call, adds its entry, and answers its reply. Want of memory hands the call back; a get
+    /// Makes a call, adds its entry, and answers its reply. Out of memory the call comes back; a get
     /// takes no memory. A look-up takes time by the logarithm of the tensor's cells, a new cell by
     /// the number of cells behind it.
     pub fn call(&mut self, turn: Turn, call: Call) -> Result<Reply, Back<Call>>
         requires no_query { IsNoQuery call }
-        requires within { IsWithin (length self.old.tensors) call }
+        requires cells { IsCallOf self.old.orders call }
         requires above { self.old.last < turn.number }
         requires below { turn.number ≤ self.old.calls }
         ensures entries { OnOk result (self.new.entries ≡ self.old.entries ++ (record { turn = turn; call = call }) ∷ []) }
         ensures last { OnOk result (self.new.last ≡ turn.number) }
         ensures calls { self.new.calls ≡ self.old.calls }
-        ensures reply { IfOk result (λ r. (w : World) → IsRunOf w self.old → reply_of w self.new.entries (length self.old.entries) ≡ Some r) }
-        ensures value { IfOk result (λ r. (w : World) → IsRunOf w self.old → reply_to w.decls (fold_of w self.old.entries) call ≡ r) }
+        ensures orders { self.new.orders ≡ self.old.orders }
+        ensures reply { IfOk result (λ r. (w : World) → IsRunOf w self.old → reply_of_entry w self.new.entries (length self.old.entries) ≡ Some r) }
+        ensures value { IfOk result (λ r. (w : World) → IsRunOf w self.old → reply_to w.decls (contents_after w self.old.entries) call ≡ r) }
         ensures run { OnOk result ((w : World) → IsRunOf w self.old → IsRunOf w self.new) }
         ensures get { OnErr result (IsNoGet call) }
         ensures plain { IfOk result (λ r. IsPlain (Some r)) }
         ensures err { OnErr result (self.new ≡ self.old) }
         ensures back { IfErr result (λ e. e.back ≡ call) }
     {
-        match answer(&mut self.tensors, &call) {
-            Ok(reply) => {
+        match make_call(&mut self.tensors, &call) {
+            Ok(read) => {
                 self.journal.push(Entry { turn, call });
                 self.last = turn.number;
-                Ok(reply)
+                Ok(reply_from(read))
             }
             Err(NoMemory) => Err(Back { back: call }),
         }
@@ -112,5 +110,18 @@ impl Plain {
         ensures few { length self.now.entries ≤ self.now.last }
     {
         &self.journal
+    }
+
+    /// The nonzeros of a tensor after the calls so far, ascending by coordinates. Tensors are counted
+    /// from 0; one that the world doesn't have has none. It takes time by the number of its cells.
+    pub fn pairs(&self, tensor: u32) -> Result<Nonzeros, NoMemory>
+        ensures cells { IfOk result (λ pairs. pairs ≡ without_zeros (cells_of self.now.tensors tensor)) }
+        ensures value { IfOk result (λ pairs. (w : World) → IsValid w → IsRunOf w self.now → All (λ e. IsTrue (call_is_valid w.decls e.call)) self.now.entries
+            → pairs ≡ nonzeros (contents_after w self.now.entries tensor) (all_below (dims_of w.decls tensor))) }
+    {
+        match self.tensors.get(tensor as usize) {
+            Some(cells) => cells.nonzeros(self.alloc),
+            None => Ok(Nonzeros::new(self.alloc)),
+        }
     }
 }

@@ -5,16 +5,18 @@ use Rattle.commit_core.specs.declared.events.Position.{Position}
 use Rattle.commit_core.specs.Events.{position_after}
 use Rattle.commit_core.specs.State.{position_in}
 use Rattle.dt_model.specs.declared.replies.World.{World}
-use Rattle.commit_core.proofs.Calls.{none_after}
+use Rattle.commit_core.proofs.ValidScripts.{none_after}
 use Rattle.commit_core.proofs.StateLemmas.{position_in-past}
 use Rattle.commit_core.proofs.opening.first_positions.Goals as goal
 
-every : (w : World) (positions : List Position) (n : ℕ) → length positions ≡ n → length w.scripts + 1 ≤ n → ((s : ℕ) → s < n → position_in positions s ≡ position_after w s 0) → (s : ℕ) → position_in positions s ≡ position_after w s 0
+every : (w : World) (positions : List Position) (n : ℕ) → length positions ≡ n → length w.scripts + 1 ≤ n
+    → ((s : ℕ) → s < n → position_in positions s ≡ position_after w s 0) → (s : ℕ) → position_in positions s ≡ position_after w s 0
 every w positions n len full below s = elim (nat_lt s n) as (λ b. nat_lt s n ≡ b → position_in positions s ≡ position_after w s 0) [
   | true ↦ λ e. below s (grind (arith, nat_tests))
   | false ↦ λ e.
       let past : n ≤ s = grind (arith, nat_tests) in
-      position_in-past positions s (omega arith) ∙ ap (λ k. let x : Position = record { number = k; committed = false } in x) (sym (none_after w s (omega arith)))
+      position_in-past positions s (omega arith) ∙ ap (λ k. let x : Position = record { number = k; committed = false } in x)
+      (sym (none_after w s (omega arith)))
 ] refl
 
 pub returns-clause-positions : goal.returns-clause-positions

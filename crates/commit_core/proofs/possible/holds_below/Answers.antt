@@ -3,7 +3,7 @@ use Rattle.std.specs.Prelude.{slice_index, nat_le, not, ◌||◌, ◌&&◌, ◌=
 use Rattle.dt_model.specs.Latches.{needs}
 use Rattle.commit_core.specs.Machine.{journal_latch}
 use Rattle.commit_core.specs.Events.{all_under}
-use Rattle.commit_core.proofs.Holding.{holds-journal}
+use Rattle.commit_core.proofs.EventsLemmas.{holds-journal}
 use Rattle.commit_core.proofs.possible.holds_below.Goals as goal
 
 pub returns-then-holds_latch : goal.returns-then-holds_latch

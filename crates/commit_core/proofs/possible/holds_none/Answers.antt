@@ -1,7 +1,7 @@
 use Rattle.std.proofs.Common.{◌≡◌, sym, arith, false}
 use Rattle.std.specs.Prelude.{slice_index, not, ◌==◌}
 use Rattle.std.proofs.lemmas.Bool.Decides.{nat_tests}
-use Rattle.commit_core.proofs.Bounded.{all_under-fails}
+use Rattle.commit_core.proofs.EventsLemmas.{all_under-fails}
 use Rattle.commit_core.proofs.possible.holds_none.Goals as goal
 
 pub returns-then-holder-session : goal.returns-then-holder-session

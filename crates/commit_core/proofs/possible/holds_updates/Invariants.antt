@@ -6,4 +6,5 @@ use Rattle.dt_model.specs.Verdicts.{update_cell}
 use Rattle.commit_core.proofs.possible.holds_updates.Given as goal
 
 abbrev pub invariant-loop-update : goal.invariant-loop-update
-invariant-loop-update l = list_all (λ u. nat_le l.end (latch_of_cell l.decls (update_cell u)) || slice_index l.holders (latch_of_cell l.decls (update_cell u)) == l.session) (take l.update-index l.updates) ≡ true
+invariant-loop-update l = list_all (λ u. nat_le l.end (latch_of_cell l.decls (update_cell u))
+    || slice_index l.holders (latch_of_cell l.decls (update_cell u)) == l.session) (take l.update-index l.updates) ≡ true

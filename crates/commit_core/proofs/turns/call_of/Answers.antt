@@ -1,4 +1,4 @@
-use Rattle.commit_core.proofs.Calls.{found_is_valid}
+use Rattle.commit_core.proofs.ValidScripts.{found_is_valid}
 use Rattle.commit_core.proofs.turns.call_of.Goals as goal
 
 pub returns-clause-valid : goal.returns-clause-valid

@@ -1,6 +1,6 @@
 use Rattle.std.proofs.Common.{ap, sym, ◌∙◌, arith}
 use Rattle.std.specs.Option.{option_copied}
-use Rattle.commit_core.proofs.Calls.{script_is_short}
+use Rattle.commit_core.proofs.ValidScripts.{script_is_short}
 use Rattle.commit_core.proofs.turns.lines_of.Goals as goal
 
 pub overflow_cast-result : goal.overflow_cast-result

@@ -1,6 +1,6 @@
 use Rattle.std.proofs.Common.{ℕ, ◌≡◌, ◌+◌, ◌<◌, ◌≤◌, IsTrue, false, slice_index_or, vec_capacity}
 use Rattle.std.specs.Mem.Slots.{slots_items, slots_filled, slots_len}
-use Rattle.fiber_latch.specs.Leaving.{TakenOut}
+use Rattle.fiber_latch.specs.Leaving.{AreFromSlots}
 use Rattle.fiber_latch.proofs.closing.take_stores.Given as goal
 
 abbrev pub invariant-loop-latch : goal.invariant-loop-latch
@@ -10,5 +10,5 @@ invariant-loop-latch g l = record {
   left : (k : ℕ) → k < l.latch → slice_index_or (slots_filled l.slots.slots) k false ≡ false;
   full : (k : ℕ) → l.latch ≤ k → k ≤ l.end → IsTrue (slice_index_or (slots_filled l.slots.slots) k false);
   room : l.end ≤ vec_capacity l.stores;
-  taken : TakenOut l.latch (slots_items l.initial.slots.slots) l.stores.items;
+  taken : AreFromSlots l.latch (slots_items l.initial.slots.slots) l.stores.items;
 }

@@ -1,25 +1,31 @@
 use Rattle.std.proofs.Common.{ℕ, Option, ◌≡◌, ◌+◌, ◌<◌, arith, sym, ◌∙◌, subst}
 use Rattle.fiber_latch.specs.declared.view.View.{View}
 use Rattle.fiber_latch.specs.declared.view.Role.TheVariants.{Sessions}
-use Rattle.fiber_latch.specs.Latch.{Good, Ruled, terms_of, IsSession, Looks, joined_role}
+use Rattle.fiber_latch.specs.Views.{IsSession}
+use Rattle.fiber_latch.specs.Rule.{Good, KeepsRule}
+use Rattle.fiber_latch.specs.Steps.{ReadsClock, joined_role}
+use Rattle.fiber_latch.specs.Conditions.{config_of}
 use Rattle.atomic_table.specs.Table.{Allows, Me, step}
 use mathlib.Core.Option.{none}
 use Rattle.fiber_latch.specs.declared.rule.SlotValue.{SlotValue}
-use Rattle.fiber_latch.proofs.Sessions.{join_moves_as}
-use Rattle.fiber_latch.proofs.Part.{look_moves}
+use Rattle.fiber_latch.proofs.SessionKinds.{join_moves}
+use Rattle.fiber_latch.proofs.ReleaseKind.{look_moves}
+use Rattle.fiber_latch.proofs.KindsLemmas.{allows, joins}
 use Rattle.fiber_latch.proofs.raw.join_seats.Goals as goal
 
 pub join_seat-requires : goal.join_seat-requires
 join_seat-requires g c =
     let key = c.args.top.now.key in
-    let place = c.args.place.now in
+    let token = c.args.token.now in
     let t = c.requires.table in
     let r = c.requires.ready in (
-      t.0,
-      t.1,
-      t.2,
-      (let w = t.3.0 in omega arith),
-      join_moves_as (Good g.C.Keep.content g.C.Keep.sound (terms_of key)) (terms_of key) place.id c.args.other.id c.args.first c.args.middle c.args.last place.me.0 c.args.other.me.0 r.0 r.1 r.2 r.3,
+      t.same,
+      c.requires.other.0,
+      c.requires.other.1,
+      (let w = t.sized.words in omega arith),
+      joins (Good g.C.Keep.content g.C.Keep.sound (config_of key)) (config_of key)
+          (join_moves (Good g.C.Keep.content g.C.Keep.sound (config_of key)) (config_of key) token.id c.args.other.id c.args.first c.args.middle c.args.last
+          token.me.0 c.args.other.me.0 r.0 r.1 r.2 r.3),
     )
 
 pub load-requires : goal.load-requires
@@ -30,11 +36,14 @@ load-requires g c =
     let j = c.join_seat.ensures in
     let seat = c.join_seat.new.seat in
     let slots : ℕ = c.args.top.now.table_id.slots in
-    let role : joined_role c.args.place.now.me.0.role c.args.other.me.0.role ≡ Sessions c.args.first c.args.last = λ i. joined_role (r.0.role i) (r.1.role i) in
-    let session : IsSession seat.me.0.role = subst (λ (m : Me (Option (SlotValue g.row.C.Denot)) View). IsSession m.0.role) (sym j.2) (subst IsSession (sym role) tt) in
-    let word : c.args.end + 1 < c.args.top.now.table_id.words = let a = t.3.0 in let b = t.4 in omega arith in (
-      j.0 ∙ t.0,
+    let role : joined_role c.args.token.now.me.0.role c.args.other.me.0.role ≡ Sessions c.args.first c.args.last = λ i. joined_role (r.0.role i) (r.1.role i) in
+    let session : IsSession seat.me.0.role = subst (λ (m : Me (Option (SlotValue g.row.C.Denot)) View). IsSession m.0.role) (sym j.2)
+    (subst IsSession (sym role) tt) in
+    let word : c.args.end + 1 < c.args.top.now.table_id.words = let a = t.sized.words in let b = c.requires.end in omega arith in (
+      j.0 ∙ t.same,
       word,
-      subst (λ (n : ℕ). Allows (Ruled (terms_of key) (Good g.C.Keep.content g.C.Keep.sound (terms_of key))) slots seat.id seat.me (n + 1) (λ x. x) (Looks (step slots (n + 1) 0 0 none) seat.me)) (sym t.4)
-          (look_moves (Good g.C.Keep.content g.C.Keep.sound (terms_of key)) (terms_of key) slots seat.id seat.me.0 seat.me.1 session),
+      subst (λ (n : ℕ). Allows (KeepsRule (config_of key) (Good g.C.Keep.content g.C.Keep.sound (config_of key))) slots seat.id seat.me (n
+          + 1) (λ x. x) (ReadsClock (step slots (n + 1) 0 0 none) seat.me)) (sym c.requires.end)
+          (allows (Good g.C.Keep.content g.C.Keep.sound (config_of key)) (config_of key)
+          (look_moves (Good g.C.Keep.content g.C.Keep.sound (config_of key)) (config_of key) slots seat.id seat.me.0 seat.me.1 session)),
     )

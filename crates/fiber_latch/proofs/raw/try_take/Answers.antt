@@ -1,21 +1,31 @@
-use Rattle.std.proofs.Common.{sym, ap, ◌∙◌}
-use Rattle.fiber_latch.proofs.Frame.{owner_is_session}
-use Rattle.fiber_latch.proofs.Took.{took_all, lifted}
+use Rattle.fiber_latch.specs.Conditions.{the_view}
+use Rattle.std.proofs.Common.{[], ◌∷◌, sym, ap, ◌∙◌}
+use Rattle.fiber_latch.proofs.RuleLemmas.{owner_is_session}
+use Rattle.fiber_latch.proofs.ConditionsLemmas.{TakesLatch-steps, same_value}
 use Rattle.fiber_latch.proofs.raw.try_take.Goals as goal
 
-pub meet-requires-clause-table : goal.meet-requires-clause-table
-meet-requires-clause-table g c =
+pub absorb_pass-requires-clause-table : goal.absorb_pass-requires-clause-table
+absorb_pass-requires-clause-table g c =
     let t = c.requires.table in
+    record { same = c.take_value-kept.ensures.same.table ∙ c.take_step-found.ensures.same.table ∙ t.same; sized = t.sized }
+
+pub absorb_pass-requires-clause-pass : goal.absorb_pass-requires-clause-pass
+absorb_pass-requires-clause-pass g c =
     let k = c.take_step-found.ensures.step.0 c.if-found-ne0.false in
     let h = k.2 in
-    let x = lifted _ _ _ _ _ (ap (λ m. m.1) h.0) c.lift-kept.ensures.was in
-    (c.lift-kept.ensures.same.0 ∙ c.take_step-found.ensures.same.0 ∙ t.0, t.1, t.2, ap (λ z. z.pass.table_id) (sym x) ∙ h.2 ∙ t.4)
+    let x = same_value _ _ _ _ _ (ap (λ m. m.1) h.0) c.take_value-kept.ensures.was in (
+      ap (λ z. z.pass.table_id) (sym x) ∙ h.2 ∙ c.requires.knows.name,
+      ap (λ z. z.pass.views) (sym x) ∙ h.1
+          ∙ ap (λ u. u ∷ []) (ap the_view (sym h.1) ∙ ap (λ z. the_view z.pass.views) x),
+    )
 
 pub returns-clause-ok : goal.returns-clause-ok
 returns-clause-ok g c =
     let r = c.requires.ready in
     let k = c.take_step-found.ensures.step.0 c.if-found-ne0.false in
     let h = k.2 in
-    let v = c.args.place.now.me.0 in
-    took_all g.C.Keep.content g.C.Keep.sound c.args.latch c.args.session v k.1 c.args.place.now.me.1 c.take_step-found.new.place.me c.lift-kept.new.place.me c.meet.new.place.me k.0 c.lift-kept.result
-    (owner_is_session v.role c.args.session r.owns) r.idle h.0 h.1 h.3 h.4 h.5 c.lift-kept.ensures.was c.lift-kept.ensures.me c.meet.ensures.me c.meet.ensures.told
+    let v = c.args.token.now.me.0 in
+    TakesLatch-steps g.C.Keep.content g.C.Keep.sound c.args.latch c.args.session v k.1 c.args.token.now.me.1 c.take_step-found.new.token.me
+    c.take_value-kept.new.token.me c.absorb_pass.new.token.me k.0 c.take_value-kept.result
+    (owner_is_session v.role c.args.session r.owns) r.idle h.0 h.1 h.3 h.4 c.take_value-kept.ensures.was c.take_value-kept.ensures.me
+    c.absorb_pass.ensures.me c.absorb_pass.ensures.told

@@ -1,5 +1,5 @@
 use Rattle.std.proofs.Common.{◌∙◌, arith, refl}
-use Rattle.fiber_latch.proofs.TrialStores.{unused_rests, rests_done}
+use Rattle.fiber_latch.proofs.TrialGoodLemmas.{unused_rests, rests_done}
 use Rattle.fiber_latch.proofs.tests.rounds.Goals as goal
 
 pub loop-number-init : goal.loop-number-init
@@ -15,4 +15,5 @@ loop-number-preserved g c =
     record { sits = (c.loop-number.number, (refl, r.0)); first = r.1 ∙ inv.first; last = r.2 ∙ inv.last }
 
 pub returns : goal.returns
-returns g c = let inv = c.loop-number.invariant in record { seat = rests_done c.args.latches.now inv.sits.0 c.args.seat.first c.args.seat.last c.loop-number.seat inv.sits.1.1 inv.first inv.last }
+returns g c = let inv = c.loop-number.invariant in record
+    { seat = rests_done c.args.latches.now inv.sits.0 c.args.seat.first c.args.seat.last c.loop-number.seat inv.sits.1.1 inv.first inv.last }

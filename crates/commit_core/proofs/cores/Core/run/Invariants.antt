@@ -5,4 +5,5 @@ use Rattle.commit_core.specs.Sound.{IsSound}
 use Rattle.commit_core.proofs.cores.Core.run.Given as goal
 
 abbrev pub invariant-loop-event : goal.invariant-loop-event
-invariant-loop-event l = (l.core.world ≡ l.world) × (progress_of l.core ≡ run_of l.world (take l.event-index l.events)) × IsSound l.core.world (progress_of l.core)
+invariant-loop-event l = (l.core.world ≡ l.world) × (progress_of l.core ≡ run_of l.world (take l.event-index l.events))
+    × IsSound l.core.world (progress_of l.core)

@@ -1,5 +1,5 @@
 use Rattle.std.proofs.Common.{rules}
-use Rattle.commit_core.proofs.WholeLemmas.{IsStep-made, IsSound-made}
+use Rattle.commit_core.proofs.InvariantLemmas.{IsStep-made, IsSound-made}
 use Rattle.commit_core.proofs.cores.Core.step.Goals as goal
 
 pub returns-in-Take-clause-machine : goal.returns-in-Take-clause-machine
@@ -24,4 +24,5 @@ pub returns-in-Ok-quit-clause-machine : goal.returns-in-Ok-quit-clause-machine
 returns-in-Ok-quit-clause-machine c = IsStep-made c.args.self.now c.quit.new.self c.args.event c.possible.ensures.kept (search rules) (search rules)
 
 pub returns-in-Ok-quit-clause-sound : goal.returns-in-Ok-quit-clause-sound
-returns-in-Ok-quit-clause-sound c = IsSound-made c.args.self.now c.quit.new.self c.args.event c.possible.ensures.kept (search rules) (search rules) (search rules)
+returns-in-Ok-quit-clause-sound c = IsSound-made c.args.self.now c.quit.new.self c.args.event c.possible.ensures.kept (search rules) (search rules)
+    (search rules)

@@ -1,12 +1,15 @@
 use Rattle.std.proofs.Common.{ℕ, List, [], ◌∷◌, ◌++◌, ◌≡◌, refl, sym, ap, ◌∙◌, subst, ⊎_elim}
 use Rattle.std.proofs.lemmas.List.{append_assoc}
-use Rattle.fiber_latch.specs.Seats.{SeatState, Tops, IsHeldBy}
-use Rattle.fiber_latch.specs.Views.{In}
-use Rattle.fiber_latch.proofs.Prefix.{in_append}
+use Rattle.fiber_latch.specs.Seats.{SeatState, IsHeldBy}
+use Rattle.fiber_latch.specs.Views.{IsAboveAll, In}
+use Rattle.fiber_latch.proofs.ViewsLemmas.{in_append}
 use Rattle.fiber_latch.proofs.latches.Latches.take.Goals as goal
 
 pub try_take-requires-clause-latch : goal.try_take-requires-clause-latch
-try_take-requires-clause-latch g c = (c.requires.latch.0, subst (λ (x : SeatState). Tops c.args.latch x.held) (sym c.loop.invariant.1) c.requires.latch.1)
+try_take-requires-clause-latch g c = (
+  c.requires.latch.0,
+  subst (λ (x : SeatState). IsAboveAll (λ (h : ℕ × ℕ). h.0) c.args.latch x.held) (sym c.loop.invariant.1) c.requires.latch.1,
+)
 
 pub loop-preserved : goal.loop-preserved
 loop-preserved g c =
@@ -17,8 +20,12 @@ loop-preserved g c =
     let n : ℕ = c.in-Err.busy.holder in
     let here = subst (IsHeldBy n) before.1 busy.holder in (
       before.0 ++ (l, n) ∷ [],
-      busy.met ∙ ap (λ (x : SeatState). record x { met = x.met ++ (l, n) ∷ [] }) before.1 ∙ ap (λ (m : List (ℕ × ℕ)). record old { met = m }) (append_assoc old.met before.0 ((l, n) ∷ [])),
+      busy.conflicts ∙ ap (λ (x : SeatState). record x { conflicts = x.conflicts ++ (l, n) ∷ [] }) before.1
+          ∙ ap (λ (m : List (ℕ × ℕ)). record old { conflicts = m }) (append_assoc old.conflicts before.0 ((l, n) ∷ [])),
       λ p i. ⊎_elim (λ (a : In p before.0). before.2 p a)
-          (λ (a : In p ((l, n) ∷ [])). ⊎_elim (λ (e : p ≡ (l, n)). subst (λ (q : ℕ × ℕ). (q.0 ≡ l) × IsHeldBy q.1 old) (sym e) (refl, record { held = here.held; session = here.session; other = here.other })) (λ (b : ⊥). absurd b) a)
+          (λ (a : In p ((l, n) ∷ [])). ⊎_elim (λ (e : p ≡ (l, n)). subst (λ (q : ℕ × ℕ). (q.0 ≡ l) × IsHeldBy q.1 old) (sym e) (
+            refl,
+            record { held = here.held; session = here.session; other = here.other },
+          )) (λ (b : ⊥). absurd b) a)
           (in_append p before.0 ((l, n) ∷ []) i),
     )

@@ -4,4 +4,5 @@ use Rattle.fiber_latch.specs.Views.{In}
 use Rattle.fiber_latch.proofs.latches.Latches.take.Given as goal
 
 abbrev pub invariant-loop : goal.invariant-loop
-invariant-loop g l = (met : List (ℕ × ℕ)) × (l.seat ≡ record l.initial.seat { met = l.initial.seat.met ++ met }) × ((p : ℕ × ℕ) → In p met → (p.0 ≡ l.latch) × IsHeldBy p.1 l.initial.seat)
+invariant-loop g l = (conflicts : List (ℕ × ℕ)) × (l.seat ≡ record l.initial.seat { conflicts = l.initial.seat.conflicts ++ conflicts })
+    × ((p : ℕ × ℕ) → In p conflicts → (p.0 ≡ l.latch) × IsHeldBy p.1 l.initial.seat)

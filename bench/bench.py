@@ -1,0 +1,143 @@
+#!/usr/bin/env python3
+"""Times the built program: python3 bench/bench.py [--against COMMAND] [--program COMMAND] [FAMILY..]
+
+Makes the workloads of bench/workloads.py, of all families or of those that are named, and runs the program on each. With
+--against it runs that command on the same files in turn, and prints the ratios. Each workload is run TURNS times, the
+turns of all workloads of a family interleaved, so that a ratio is of one stretch of time. A run that is short is made
+several times in a row. A run whose output isn't right to the byte stops the bench.
+"""
+
+import filecmp
+import math
+import os
+import shutil
+import subprocess
+import sys
+import tempfile
+import time
+from pathlib import Path
+
+from workloads import FAMILIES
+
+HERE = Path(__file__).resolve().parent
+PROGRAM = HERE.parent / "crates/dyntensor/out/dyntensor"
+TURNS = 5
+ROW_SECONDS = 0.3
+MOST_IN_A_ROW = 20
+KIB_IN_MIB = 1024
+
+
+class NotBuilt(Exception):
+    """The program refuses a form that isn't built yet."""
+
+
+def run_once(command, folder):
+    """The status, the seconds and the peak memory in KiB of one run in a folder, whose output goes to a file there.
+
+    The system counts no child's peak as less than what its parent holds when it starts it.
+    """
+    with open(folder / "printed", "wb") as printed:
+        started = time.perf_counter()
+        child = subprocess.Popen(command, cwd=folder, stdin=subprocess.DEVNULL, stdout=printed)
+        _, status, used = os.wait4(child.pid, 0)
+        seconds = time.perf_counter() - started
+    child.returncode = os.waitstatus_to_exitcode(status)
+    return child.returncode, seconds, used.ru_maxrss
+
+
+def timed_run(program, folder):
+    """The seconds and the peak memory of one run, which has to print the report."""
+    status, seconds, peak = run_once([program, "run", "m"], folder)
+    if status == 2 and (folder / "printed").read_bytes().endswith(b" not built\n"):
+        raise NotBuilt
+    if status != 0 or not filecmp.cmp(folder / "printed", folder / "report", shallow=False):
+        sys.exit(f"{folder.name}: {program} ended with status {status}, or printed something else than it has to")
+    filecmp.clear_cache()
+    return seconds, peak
+
+
+def peak_of(command, folder):
+    """The peak memory in KiB of a run that a small parent starts, or None where there is no such parent."""
+    small = shutil.which("time")
+    if not small:
+        return None
+    subprocess.run([small, "-f", "%M", "-o", folder / "peak", *command], cwd=folder, stdin=subprocess.DEVNULL, stdout=subprocess.DEVNULL)
+    return int((folder / "peak").read_text().split()[-1])
+
+
+def timed_turn(program, folder, count):
+    """The seconds of a run, over so many in a row."""
+    return sum(timed_run(program, folder)[0] for _ in range(count)) / count
+
+
+def measured(programs, folders):
+    """The median seconds and the peak memory in KiB of each program on each workload."""
+    counts, peaks = {}, {}
+    for program in programs:
+        for folder in folders:
+            seconds, peak = timed_run(program, folder)
+            counts[program, folder] = max(1, min(MOST_IN_A_ROW, round(ROW_SECONDS / seconds)))
+            peaks[program, folder] = peak_of([program, "run", "m"], folder) or peak
+    turns = {it: [] for it in counts}
+    for _ in range(TURNS):
+        for folder in folders:
+            for program in programs:
+                turns[program, folder].append(timed_turn(program, folder, counts[program, folder]))
+    return {it: (sorted(seconds)[TURNS // 2], peaks[it]) for it, seconds in turns.items()}
+
+
+def make(family, kind, size, room):
+    folder = Path(room) / f"{family} {kind} {size}"
+    folder.mkdir()
+    subprocess.run([sys.executable, "-B", HERE / "workloads.py", family, kind, str(size), folder], check=True)
+    return folder
+
+
+def bench_family(family, programs, room):
+    kinds, sizes = FAMILIES[family]
+    folders = {(kind, size): make(family, kind, size, room) for kind in kinds for size in sizes}
+    try:
+        found = measured(programs, folders.values())
+    except NotBuilt:
+        print(f"{family}: not built yet\n")
+        return
+    print(f"| {family} | lines | s | MiB | grew as n to the |" + " times the other's wall | times its memory |" * (len(programs) > 1))
+    print("|---|---|---|---|---|" + "---|---|" * (len(programs) > 1))
+    for kind in kinds:
+        for size in sizes:
+            print(row(kind, size, sizes, programs, found, folders))
+    print()
+
+
+def row(kind, size, sizes, programs, found, folders):
+    seconds, peak = found[programs[0], folders[kind, size]]
+    shorter = found[programs[0], folders[kind, sizes[0]]][0]
+    grew = f"{math.log(seconds / shorter) / math.log(size / sizes[0]):.2f}" if size != sizes[0] else ""
+    cells = [kind, f"{size:,}", f"{seconds:.3f}", f"{peak / KIB_IN_MIB:.1f}", grew]
+    if len(programs) > 1:
+        other, others_peak = found[programs[1], folders[kind, size]]
+        cells += [f"{seconds / other:.2f}", f"{peak / others_peak:.2f}"]
+    return "| " + " | ".join(cells) + " |"
+
+
+def main(words):
+    options = {"--against": None, "--program": str(PROGRAM)}
+    while words and words[0] in options:
+        option, given, *words = words
+        options[option] = str(Path(given).resolve())
+    programs = [it for it in (options["--program"], options["--against"]) if it]
+    for program in programs:
+        if not os.access(program, os.X_OK):
+            sys.exit(f"{program} isn't there: tools/run.sh --prove builds the program")
+    load = os.getloadavg()[0]
+    for family in words or FAMILIES:
+        with tempfile.TemporaryDirectory() as room:
+            bench_family(family, programs, room)
+    with tempfile.TemporaryDirectory() as room:
+        floor = peak_of(["true"], Path(room)) or run_once(["true"], Path(room))[2]
+    print(f"A program that does nothing counts as {floor / KIB_IN_MIB:.1f} MiB.")
+    print(f"Load when it began: {load:.1f} on {os.cpu_count()} processors{', a busy machine: the ratios are noisy' if load > 1 else ''}.")
+
+
+if __name__ == "__main__":
+    main(sys.argv[1:])

@@ -1,0 +1,7 @@
+use Rattle.commit_core.proofs.CellsLemmas.{searched}
+use Rattle.commit_core.proofs.cells.find_cell.Goals as goal
+
+pub returns : goal.returns
+returns c =
+    let found = searched c.args.cells.now.pairs c.args.at.now c.requires.ascending c.search.result c.search.ensures.bound c.search.ensures.position in
+    record { found = found.0; absent = found.1 }

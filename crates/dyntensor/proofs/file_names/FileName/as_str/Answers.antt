@@ -1,7 +1,0 @@
-use Rattle.std.proofs.Common.{subst, sym}
-use Rattle.std.specs.Str.{IsUtf8}
-use Rattle.dyntensor.proofs.FileNameLemmas.{utf8-from_name}
-use Rattle.dyntensor.proofs.file_names.FileName.as_str.Goals as goal
-
-pub unreachable-requires : goal.unreachable-requires
-unreachable-requires c = c.in-Err.ensures.cases.0 (subst IsUtf8 (sym c.as_slice.ensures.value) (utf8-from_name c.self.inside.bytes.items c.self.invariant))

@@ -1,0 +1,29 @@
+-- What is known of what was gathered from a manifest's items, whatever the files have. No public clause cites this module.
+use Rattle.std.specs.Prelude.{ℕ, ◌≡◌, ◌≤◌, ◌<◌, List, map, length, All}
+use Rattle.dt_model.specs.declared.replies.World.{World}
+use Rattle.dt_model.specs.Tensors.{total_latches}
+use Rattle.dt_model.specs.Worlds.{IsValid}
+use Rattle.script_read.specs.declared.declarations.Declared.{Declared}
+use Rattle.script_read.specs.declared.items.Item.{Item}
+use Rattle.script_read.specs.Sound.{IsSoundItem, AsksNoQuery}
+use Rattle.dyntensor.specs.Workload.{Gathered, work_of}
+
+-- a valid world of one session at most, without queries, and tensors of it to print
+pub record IsRunnable (w : World) (printed : List ℕ) : Type 0 where
+  pub valid : IsValid w
+  pub single : length w.scripts ≤ 1
+  pub no_query : All (All AsksNoQuery) w.scripts
+  pub are_declared : All (λ t. t < length w.decls.tensors) printed
+
+-- it was gathered from items that declare this
+pub record IsGatheredFrom (d : Declared) (g : Gathered) : Type 0 where
+  pub names : map (λ t. t.name) g.tensors ≡ d.tensors
+  pub sessions : length g.scripts ≡ d.sessions
+  pub latches : total_latches g.tensors ≡ d.latches
+  pub runnable : IsRunnable (work_of g).world g.printed
+
+-- an item that may be added to what was gathered
+pub record CanAdd (g : Gathered) (item : Item) : Type 0 where
+  pub declared : Declared
+  pub gathered : IsGatheredFrom declared g
+  pub sound : IsSoundItem declared item

@@ -1,0 +1,11 @@
+pub mod Laws
+pub mod Joining
+pub mod NthNames
+pub mod Firsts
+pub mod Own
+pub mod Known
+pub mod ListingLemmas
+pub mod LoopOrdersLemmas
+pub mod ListedLemmas
+pub mod PlansLemmas
+pub mod ExamplePlans

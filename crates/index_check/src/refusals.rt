@@ -1,0 +1,108 @@
+//! The first reason to refuse a statement.
+ghost use Rattle.std.specs.Prelude.{◌≡◌, ◌<◌, ◌≤◌, ℕ, true, List, [], length, map, All, Option, Some, None, IfOk};
+ghost use Rattle.std.specs.List.{enumerate_from};
+ghost use Rattle.dt_model.specs.Statements.{accesses, terms};
+ghost use Rattle.dt_model.specs.Refusals.{statement_fault, dimension_fault, first_of_all, or_else, access_fault, cover_fault};
+ghost use Rattle.dt_model.specs.Verdicts.{is_small};
+ghost use Rattle.index_check.specs.Parts.{all_places, AllVarsBelow, access_faults, term_faults};
+ghost use Rattle.index_check.specs.Plans.{plan_of};
+ghost use Rattle.index_check.specs.Refused.{IsRefusedBy};
+
+use crate::access_faults::{misranked_in, repeated_in_access, undeclared_in};
+use crate::accesses::accesses_of;
+use crate::places::{add_all_places, dimension_fault};
+use crate::plans::{Plan, plan_of};
+use crate::term_faults::{accessless_in, uncovered_in_terms};
+use crate::terms::add_terms;
+use crate::variables::repeated_fault;
+use dt_model::{Decls, Name, NoMemory, Refusal, Stmt, Vars};
+use std::alloc::Global;
+
+/// Why there is no plan.
+#[derive(Debug, Drop)]
+pub enum CheckFault {
+    /// The statement is refused.
+    Refused(Refusal),
+    /// Out of memory.
+    NoMemory,
+}
+
+/// The first place whose variable has another dimension than at its first place.
+fn misfit_in(names: &[Name], places: &[(u8, u32)]) -> Option<Refusal>
+    requires known { All (λ (p : ℕ × ℕ). p.0 < length names.now) places.now }
+    requires eight { length names.now ≤ 8 }
+    ensures value { result ≡ dimension_fault names.now [] places.now }
+{
+    dimension_fault(names, places, [None; 8])
+}
+
+/// The first fault of the accesses and the left side.
+fn fault_of_accesses(
+    decls: &Decls,
+    stmt: &Stmt,
+    list: &[(Name, Vars)],
+    places: &[(u8, u32)],
+) -> Option<Refusal>
+    requires left { All (λ v. v < length stmt.now.vars.items) stmt.now.left }
+    requires known { AllVarsBelow (length stmt.now.vars.items) list.now }
+    requires placed { All (λ (p : ℕ × ℕ). p.0 < length stmt.now.vars.items) places.now }
+    requires eight { length stmt.now.vars.items ≤ 8 }
+    ensures value { result ≡ access_faults decls.now stmt.now list.now places.now }
+{
+    match undeclared_in(decls, list) {
+        Some(fault) => Some(fault),
+        None => match misranked_in(decls, list) {
+            Some(fault) => Some(fault),
+            None => match misfit_in(stmt.vars.as_slice(), places) {
+                Some(fault) => Some(fault),
+                None => match repeated_fault(stmt.vars.as_slice(), stmt.left.as_slice()) {
+                    Some(fault) => Some(fault),
+                    None => repeated_in_access(stmt.vars.as_slice(), list),
+                },
+            },
+        },
+    }
+}
+
+/// The first fault of the terms.
+fn fault_of_terms(alloc: Global, stmt: &Stmt) -> Result<Option<Refusal>, NoMemory>
+    requires small { is_small stmt.now ≡ true }
+    ensures value { IfOk result (λ r. r ≡ term_faults stmt.now) }
+{
+    let mut list = Vec::new(alloc);
+    add_terms(alloc, true, &stmt.right, &mut list)?;
+    match accessless_in(list.as_slice(), 0) {
+        Some(fault) => Ok(Some(fault)),
+        None => uncovered_in_terms(alloc, stmt, list.as_slice(), 0),
+    }
+}
+
+/// The first reason to refuse a statement.
+fn first_fault(alloc: Global, decls: &Decls, stmt: &Stmt) -> Result<Option<Refusal>, NoMemory>
+    requires small { is_small stmt.now ≡ true }
+    ensures value { IfOk result (λ r. r ≡ statement_fault decls.now stmt.now) }
+{
+    let list = accesses_of(alloc, &stmt.right)?;
+    let mut places = Vec::new(alloc);
+    add_all_places(decls, list.as_slice(), &mut places)?;
+    match fault_of_accesses(decls, stmt, list.as_slice(), places.as_slice()) {
+        Some(fault) => Ok(Some(fault)),
+        None => fault_of_terms(alloc, stmt),
+    }
+}
+
+/// The plan of a statement, or the first reason to refuse it. It takes time by the statement alone.
+pub fn check_stmt(alloc: Global, decls: &Decls, stmt: &Stmt) -> Result<Plan, CheckFault>
+    requires small { is_small stmt.now ≡ true }
+    ensures refused { IsRefusedBy (statement_fault decls.now stmt.now) result }
+    ensures plan { IfOk result (λ plan. plan ≡ plan_of decls.now stmt.now) }
+{
+    match first_fault(alloc, decls, stmt) {
+        Err(NoMemory) => Err(CheckFault::NoMemory),
+        Ok(Some(refusal)) => Err(CheckFault::Refused(refusal)),
+        Ok(None) => match plan_of(alloc, decls, stmt) {
+            Ok(plan) => Ok(plan),
+            Err(NoMemory) => Err(CheckFault::NoMemory),
+        },
+    }
+}

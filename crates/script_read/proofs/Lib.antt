@@ -1,0 +1,7 @@
+pub mod FileNamesLemmas
+pub mod ReadingsLemmas
+pub mod WordsLemmas
+pub mod ManifestLinesLemmas
+pub mod ManifestsLemmas
+pub mod CallsLemmas
+pub mod ScriptsLemmas

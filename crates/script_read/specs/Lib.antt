@@ -1,0 +1,10 @@
+pub mod Readings
+pub mod Words
+pub mod ManifestLines
+pub mod Manifests
+pub mod Calls
+pub mod LineFaults
+pub mod Parts
+pub mod Judging
+pub mod Scripts
+pub mod Sound

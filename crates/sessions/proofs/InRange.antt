@@ -1,0 +1,86 @@
+-- Contents that are 0 outside the dimensions of their tensors, and valid lines and calls that keep them so.
+use Rattle.std.proofs.Common.{◌≡◌, ℕ, ◌+◌, ◌%◌, ◌^◌, Bool, true, false, List, [], ◌∷◌, refl, ap, sym, ◌∙◌, subst, IsTrue}
+use Rattle.std.specs.Prelude.{◌&&◌, nat_le, nat_lt, if◌then◌else◌, fold, length, All}
+use Rattle.std.specs.List.{list_all, enumerate_from}
+use Rattle.std.proofs.lemmas.List.Elements.{All-head, All-tail}
+use Rattle.dt_model.specs.declared.calls.Call.{Call}
+use Rattle.dt_model.specs.declared.calls.Call.TheVariants.{Get, Batch, Query}
+use Rattle.dt_model.specs.declared.calls.Cell.{Cell}
+use Rattle.dt_model.specs.declared.calls.Entry.{Entry}
+use Rattle.dt_model.specs.declared.calls.Update.{Update}
+use Rattle.dt_model.specs.declared.calls.Update.TheVariants.{Set, Add}
+use Rattle.dt_model.specs.declared.declared_tensors.Decls.{Decls}
+use Rattle.dt_model.specs.declared.limits.TheConstants.{MOST_UPDATES}
+use Rattle.dt_model.specs.declared.replies.World.{World}
+use Rattle.dt_model.specs.Contents.{Contents, no_cells, same_cell, with_cell, with_more, with_update, with_updates}
+use Rattle.dt_model.specs.Runs.{with_lines, base_of, after_call, after_entries, contents_after}
+use Rattle.dt_model.specs.Tensors.{dims_of}
+use Rattle.dt_model.specs.Verdicts.{all_in_range, cell_is_valid, update_cell, call_is_valid}
+use Rattle.dt_model.specs.Worlds.{IsValid, loads_are_valid}
+use Rattle.dt_model.proofs.Booleans.{both_true}
+use Rattle.commit_core.proofs.MachineLemmas.{same_cell-is}
+
+-- contents that are 0 wherever the coordinates aren't in range
+abbrev pub IsInRange : Decls → Contents → Type 0
+IsInRange d m = (t : ℕ) (c : List ℕ) → all_in_range (dims_of d t) c ≡ false → m t c ≡ 0
+
+IsInRange-with_cell : (d : Decls) (m : Contents) (t : ℕ) (a : List ℕ) (v : ℕ) → all_in_range (dims_of d t) a ≡ true → IsInRange d m
+    → IsInRange d (with_cell m t a v)
+IsInRange-with_cell d m t a v within h u c out = go (same_cell t a u c) refl
+  where
+    go : (b : Bool) → same_cell t a u c ≡ b → (if b then v else m u c) ≡ 0
+    go true e =
+        let same = same_cell-is t a u c e in
+        let inside : all_in_range (dims_of d u) c ≡ true = subst (λ (p : ℕ × List ℕ). all_in_range (dims_of d p.0) p.1
+        ≡ true) (λ i. (same.0 i, same.1 i)) within in
+        absurd (cc (inside, out))
+    go false e = h u c out
+
+cell_in_range : (d : Decls) (cell : Cell) → cell_is_valid d cell ≡ true → all_in_range (dims_of d cell.tensor) cell.at ≡ true
+cell_in_range d cell h = (both_true (nat_lt cell.tensor (length d.tensors)) (all_in_range (dims_of d cell.tensor) cell.at) h).1
+
+IsInRange-with_update : (d : Decls) (m : Contents) (u : Update) → cell_is_valid d (update_cell u) ≡ true → IsInRange d m → IsInRange d (with_update m u)
+IsInRange-with_update d m (Set cell v) valid h = IsInRange-with_cell d m cell.tensor cell.at v (cell_in_range d cell valid) h
+IsInRange-with_update d m (Add cell v) valid h = IsInRange-with_cell d m cell.tensor cell.at ((m cell.tensor cell.at
+    + v) % 2 ^ 64) (cell_in_range d cell valid) h
+
+IsInRange-with_updates : (d : Decls) (m : Contents) (us : List Update) → list_all (λ u. cell_is_valid d (update_cell u)) us ≡ true → IsInRange d m
+    → IsInRange d (with_updates m us)
+IsInRange-with_updates d m [] valid h = h
+IsInRange-with_updates d m (u ∷ us) valid h =
+    let both = both_true (cell_is_valid d (update_cell u)) (list_all (λ x. cell_is_valid d (update_cell x)) us) valid in
+    IsInRange-with_updates d (with_update m u) us both.1 (IsInRange-with_update d m u both.0 h)
+
+IsInRange-after_call : (d : Decls) (m : Contents) (call : Call) → call_is_valid d call ≡ true → IsInRange d m → IsInRange d (after_call m call)
+IsInRange-after_call d m (Get cell) valid h = h
+IsInRange-after_call d m (Batch us) valid h =
+    IsInRange-with_updates d m us (both_true (nat_le 1 (length us)
+    && nat_le (length us) MOST_UPDATES) (list_all (λ u. cell_is_valid d (update_cell u)) us) valid).1 h
+IsInRange-after_call d m (Query stmt) valid h = h
+
+IsInRange-with_lines : (d : Decls) (m : Contents) (t : ℕ) (lines : List (List ℕ × ℕ)) → list_all (λ line. all_in_range (dims_of d t) line.0) lines ≡ true
+    → IsInRange d m → IsInRange d (with_lines m t lines)
+IsInRange-with_lines d m t [] valid h = h
+IsInRange-with_lines d m t (l ∷ ls) valid h =
+    let both = both_true (all_in_range (dims_of d t) l.0) (list_all (λ line. all_in_range (dims_of d t) line.0) ls) valid in
+    IsInRange-with_lines d (with_more m t l.0 l.1) t ls both.1 (IsInRange-with_cell d m t l.0 ((m t l.0 + l.1) % 2 ^ 64) both.0 h)
+
+IsInRange-base : (d : Decls) (m : Contents) (n : ℕ) (base : List (List (List ℕ × ℕ))) → list_all (loads_are_valid d) (enumerate_from n base) ≡ true
+    → IsInRange d m
+    → IsInRange d (fold (λ m p. with_lines m p.0 p.1) m (enumerate_from n base))
+IsInRange-base d m n [] valid h = h
+IsInRange-base d m n (lines ∷ more) valid h =
+    let both = both_true (loads_are_valid d (n, lines)) (list_all (loads_are_valid d) (enumerate_from (n + 1) more)) valid in
+    IsInRange-base d (with_lines m n lines) (n + 1) more both.1 (IsInRange-with_lines d m n lines both.0 h)
+
+IsInRange-after_entries : (d : Decls) (m : Contents) (es : List Entry) → All (λ e. IsTrue (call_is_valid d e.call)) es → IsInRange d m
+    → IsInRange d (after_entries m es)
+IsInRange-after_entries d m [] valid h = h
+IsInRange-after_entries d m (e ∷ es) valid h = IsInRange-after_entries d (after_call m e.call) es (All-tail (λ x. IsTrue (call_is_valid d x.call)) e es valid)
+    (IsInRange-after_call d m e.call (All-head (λ x. IsTrue (call_is_valid d x.call)) e es valid) h)
+
+-- what valid calls make of a valid world's base is 0 outside the dimensions
+pub IsInRange-contents_after : (w : World) (es : List Entry) → IsValid w → All (λ e. IsTrue (call_is_valid w.decls e.call)) es
+    → IsInRange w.decls (contents_after w es)
+IsInRange-contents_after w es v calls = IsInRange-after_entries w.decls (base_of w) es calls
+    (IsInRange-base w.decls no_cells 0 w.base v.loads (λ t c out. refl))

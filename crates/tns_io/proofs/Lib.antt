@@ -1,0 +1,4 @@
+pub mod TnsLemmas
+pub mod WrittenLines
+pub mod ReadingBack
+pub mod ReadPairs

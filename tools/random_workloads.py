@@ -1,0 +1,290 @@
+#!/usr/bin/env python3
+"""Compares a program with the replayer on random workloads: python3 tools/random_workloads.py [COUNT [SEED [PROGRAM]]]
+
+Makes COUNT workloads (1,000 if left out) from SEED: manifests, scripts and .tns files that are well formed, that have
+something broken in them, or that are random bytes. It runs PROGRAM on each (crates/dyntensor/out/dyntensor if left out)
+and compares status and output with what tools/replay.py says. It prints each workload that differs, with its number,
+and ends with status 1 if there is one. It is no part of the gate.
+
+A workload is made from SEED and its number alone. With `--only NUMBER` in front that one is run, and its files are
+kept; with `--built FORM,..` in front the forms of the replayer's NOT_BUILT are taken as built; with `--verbs VERB,..` in
+front scripts have lines of these alone, as `--verbs query` for statements.
+"""
+
+import random
+import re
+import subprocess
+import sys
+import tempfile
+from pathlib import Path
+
+import replay
+
+TOP = Path(__file__).resolve().parent.parent
+SECONDS = 60
+NAMES = [b"v", b"A", b"B", b"_x", b"as", b"flat", b"n" * 32, b"Ab9_"]
+VARIABLES = [b"i", b"j", b"k", b"l", b"A", b"_m", b"i2", b"n", b"o", b"p"]
+DIMENSIONS = [1, 2, 2, 3, 3, 4, 4, 5, 7]
+INDICES = [b"0", b"1", b"2", b"3", b"4", b"007", b"5", b"8", b"4294967295", b"4294967296", b"9" * 30, b"-1", b"+2", b"1.0", b"x", b"2;"]
+VALUES = [
+    *(b"0 1 -1 7 +7 -0 00012 18446744073709551615 18446744073709551616 -9223372036854775808 -9223372036854775809").split(),
+    *(b"9223372036854775807 9223372036854775808 2.5 2. 3.000 2.50e1 1000e-3 0e-999 0.000e5 1e3 1e19 1e20 12e-1 1E+2").split(),
+    *(b"1e-1 .5 5.e0 nan 1e 1e1000 1e+ 1e-1000 ++1 -+1 1.2.3 0x1 1_0 - + 1e18 184467440737095516150e-1 0.5e1 25e-2").split(),
+]
+VERBS = [b"set", b"set", b"add", b"add", b"get", b"get", b"query", b"batch"]
+TOKENS = [b"(", b")", b",", b"=", b"+", b"-", b"*", b"1", b"2b", b"18446744073709551616", b"i", b"A", b"$", b"n" * 33, b";"]
+
+
+class Maker:
+    """Makes one workload: a dict from file names to bytes, and the words."""
+
+    def __init__(self, chance, not_built, verbs=VERBS):
+        self.chance, self.not_built, self.verbs = chance, not_built, verbs
+        self.tensors, self.files = {}, {}
+        self.is_broken = chance.random() < 0.5
+
+    def odds(self, share):
+        return self.chance.random() < share
+
+    def breaks(self, share=0.06):
+        """Whether to break what comes next: never in a workload that is to be well formed."""
+        return self.is_broken and self.odds(share)
+
+    def workload(self):
+        lines = [self.tensor_line() for _ in range(self.chance.choice([0, 1, 1, 2, 2, 3, 5]))]
+        names = [*self.tensors]
+        for place in range(self.chance.choice([0, 0, 1, 1, 2, 3]) if names else 0):
+            name, file = self.chance.choice(names), b"t%d.tns" % place
+            self.files[file] = self.file(lambda name=name: self.tns_line(name))
+            lines.append(b"load %s %s" % (name, file))
+        if self.breaks(0.1):
+            lines.append(self.chance.choice([b"load v", b"load w t0.tns", b"schema q", b"loads", b"load v \xff", b"print", b"tensor", b"load v gone"]))
+        if self.odds(0.9):
+            self.files[b"s"] = self.file(self.script_line)
+            lines += [b"session s"] * (2 if self.breaks(0.05) else 1)
+        lines += [b"print " + self.chance.choice(names) for _ in range(self.chance.choice([0, 1, 1, 2, 65 if self.breaks(0.05) else 3]) if names else 0)]
+        if self.breaks(0.1):
+            self.chance.shuffle(lines)
+        if self.breaks(0.03):
+            lines = [self.tensor_line(b"t%d" % n) for n in range(33)]
+        self.files[b"m"] = self.text([self.mangled(line) for line in lines])
+        if self.breaks(0.05) and self.files.keys() - {b"m"}:
+            self.files.pop(self.chance.choice(sorted(self.files.keys() - {b"m"})))
+        return self.files, self.words()
+
+    def words(self):
+        return self.chance.choice([[], [b"run"], [b"run", b"x" * 256], [b"go", b"m"], [b"run", b"m", b"m"], [b"run", b"gone"]]) if self.breaks(0.02) else [b"run", b"m"]
+
+    # ---- files
+
+    def file(self, line):
+        if self.breaks(0.04):
+            return bytes(self.chance.choices(range(256), k=self.chance.choice([0, 1, 20, 500])))
+        return self.text([line() for _ in range(self.chance.choice([0, 1, 3, 8, 20, 60]))])
+
+    def text(self, lines):
+        """Lines with blank lines and comments between them, and any line ends."""
+        end = self.chance.choice([b"\n", b"\n", b"\r\n"])
+        found = b""
+        for line in lines:
+            while self.odds(0.08):
+                found += self.chance.choice([b"", b" ", b"\t", b"# a note", b"  #x", b"#" * 5000, b"#\xff"]) + end
+            found += line + (b"\r\r\n" if self.breaks(0.01) else end)
+        return found.removesuffix(end) if self.odds(0.3) else found
+
+    def mangled(self, line):
+        """The line, with other blanks and, where it is to be broken, with something wrong."""
+        if self.odds(0.15):
+            line = b"\t" + line.replace(b" ", self.chance.choice([b"  ", b"\t", b" \t "])) + b" "
+        if not self.breaks():
+            return line
+        words = line.split()
+        at = self.chance.randrange(len(words) or 1)
+        if not words:
+            return b"x"
+        which = self.chance.randrange(9)
+        if which == 0:
+            words.pop(at)
+        elif which == 1:
+            words.insert(at, self.chance.choice([*INDICES, *VALUES, *NAMES]))
+        elif which in (2, 3):
+            words[at] = self.chance.choice([*INDICES, *VALUES, *NAMES, b"n" * 33, b"\xff", b"a.b"])
+        elif which == 4:
+            at = self.chance.randrange(len(line) + 1)
+            return line[:at] + bytes([self.chance.choice([0, 9, 13, 32, 35, 40, 59, 127, 255])]) + line[at:]
+        elif which == 5:
+            at = self.chance.randrange(len(line))
+            return line[:at] + line[at + 1 :]
+        elif which == 6:
+            return line + b" " * self.chance.choice([4096 - len(line), 4097 - len(line)])
+        elif which == 7:
+            words = words + words
+        else:
+            self.chance.shuffle(words)
+        return b" ".join(words)
+
+    def tensor_line(self, name=None):
+        order = self.chance.choice([1, 1, 2, 2, 2, 3, 4, 5])
+        fresh = [it for it in NAMES if it not in self.tensors] or [b"last"]
+        name = name or (self.chance.choice(NAMES) if self.breaks(0.05) else self.chance.choice(fresh))
+        dims = [self.chance.choice(DIMENSIONS) for _ in range(order)]
+        if self.odds(0.04):
+            dims[self.chance.randrange(order)] = 4294967295
+        if self.breaks(0.05):
+            dims[self.chance.randrange(order)] = self.chance.choice([0, 4294967296, 10**30])
+        latches = self.chance.choice([0, 257, 1000]) if self.breaks(0.05) else self.chance.choice([1, 2, 3, 31, 256])
+        schema = b"tree" if self.breaks(0.03) else b"flat"
+        self.tensors.setdefault(name, dims)
+        return b"tensor %s %s as %s latches %d" % (name, b" ".join(b"%d" % it for it in dims), b" ".join([schema] * order), latches)
+
+    # ---- lines of data and scripts
+
+    def coordinates(self, dims):
+        return [self.chance.choice(INDICES) if self.breaks(0.04) else b"%d" % self.chance.choice([1, dim, self.chance.randint(1, max(dim, 1))]) for dim in dims]
+
+    def value(self):
+        if self.odds(0.5):
+            return b"%d" % self.chance.randint(-20, 20)
+        if self.is_broken:
+            return self.chance.choice(VALUES)
+        return b"%d" % self.chance.choice([2**64 - 1, -(2**63), 2**63, self.chance.randrange(2**64)])
+
+    def tns_line(self, name):
+        return self.mangled(b" ".join([*self.coordinates(self.tensors[name]), self.value()]))
+
+    def script_line(self):
+        if not self.tensors:
+            return self.chance.choice([b"get v 1", b"set v 1 1", b"put", b"query a = v(i)" if "query" not in self.not_built else b"get v"])
+        verb = self.chance.choice(self.verbs)
+        if verb.decode() in self.not_built and not self.breaks(0.02):
+            verb = b"add"
+        if verb == b"query":
+            return b"query " + self.statement()
+        if verb == b"batch":
+            return self.mangled(b"batch " + b" ; ".join(self.update() for _ in range(65 if self.breaks(0.02) else self.chance.choice([1, 2, 3, 64]))))
+        return self.mangled(self.update(verb))
+
+    def update(self, verb=None):
+        verb = verb or self.chance.choice([b"set", b"add"])
+        name = b"nobody" if self.breaks(0.04) else self.chance.choice([*self.tensors])
+        at = self.coordinates(self.tensors.get(name, [3]))
+        return b" ".join([verb, name, *at, *([] if verb == b"get" else [self.value()])])
+
+    # ---- statements
+
+    def statement(self):
+        """A statement whose variables have one dimension each, as a rule."""
+        self.dims = {}
+        right = self.sum(self.chance.choice([0, 1, 1, 2, 3]))
+        left = self.chance.sample([*self.dims], self.chance.randint(0, min(3, len(self.dims)))) if not self.odds(0.3) else self.common(right)
+        if self.breaks(0.05):
+            left.append(self.chance.choice(VARIABLES))
+        text = b"%s%s = %s" % (self.chance.choice(NAMES), b"(%s)" % b",".join(left) if left else b"", right)
+        if self.breaks(0.1):
+            at = self.chance.randrange(len(text) + 1)
+            text = text[:at] + self.chance.choice(TOKENS) + text[at:]
+        if self.breaks(0.05):
+            at = self.chance.randrange(len(text))
+            text = text[:at] + text[at + 1 :]
+        return text.replace(b" ", self.chance.choice([b" ", b"", b"  ", b"\t"])) if self.odds(0.2) else text
+
+    def common(self, right):
+        """The variables that stand in each access, in the order of the first one."""
+        found = [it.split(b")")[0].split(b",") for it in right.split(b"(") if b")" in it]
+        return [it for it in dict.fromkeys(found[0]) if it in self.dims and all(it in other for other in found)] if found else []
+
+    def sum(self, depth):
+        text = b"-" if self.odds(0.1) else b""
+        text += self.product(depth)
+        for _ in range(self.chance.choice([0, 0, 1, 1, 2])):
+            text += self.chance.choice([b" + ", b" - "]) + self.product(depth)
+        return text
+
+    def product(self, depth):
+        return b" * ".join(self.factor(depth) for _ in range(self.chance.choice([1, 1, 2, 2, 3])))
+
+    def factor(self, depth):
+        if depth and self.odds(0.3):
+            return b"(" + self.sum(depth - 1) + b")"
+        if self.odds(0.1):
+            return b"%d" % self.chance.choice([0, 1, 2, 2**64 - 1, 2**64 if self.breaks() else 7])
+        name = b"nobody" if self.breaks(0.02) else self.chance.choice([*self.tensors])
+        variables = [self.variable(dim) for dim in self.tensors.get(name, [3])]
+        if self.breaks(0.03):
+            variables = variables[1:] or [*variables, b"i"]
+        return b"%s(%s)" % (name, b",".join(variables))
+
+    def variable(self, dim):
+        """A variable that has this dimension already, or a new one."""
+        same = [name for name, known in self.dims.items() if known == dim]
+        fresh = [name for name in VARIABLES[:6] if name not in self.dims]
+        name = self.chance.choice(same) if same and (self.odds(0.7) or not fresh) else self.chance.choice(fresh or VARIABLES)
+        self.dims.setdefault(name, dim)
+        return name
+
+
+def make_files(folder, files):
+    for name, text in files.items():
+        (folder / name.decode()).write_bytes(text)
+
+
+def ran(program, words, folder):
+    found = subprocess.run([program, *words], cwd=folder, stdin=subprocess.DEVNULL, capture_output=True, timeout=SECONDS)
+    return found.returncode, found.stdout
+
+
+def compared(program, number, seed, not_built, verbs, room):
+    """What the program and the replayer answer on one workload, or None where it is too large for the replayer."""
+    files, words = Maker(random.Random(f"{seed} {number}"), not_built, verbs).workload()
+    make_files(room, files)
+    try:
+        wanted = replay.run(words, room, not_built)
+    except ValueError:
+        return None
+    return ran(program, words, room), wanted
+
+
+def one(program, number, *how):
+    room = Path(tempfile.mkdtemp(prefix=f"workload-{number}-"))
+    found = compared(program, number, *how, room)
+    print(f"the files are in {room}")
+    for who, (status, text) in zip(("the program", "the replayer"), found or []):
+        print(f"{who} ends with status {status}:\n{text.decode(errors='replace')}")
+    return 0 if not found or found[0] == found[1] else 1
+
+
+def many(program, count, seed, *how):
+    ends, rows, differ, skipped = {}, {}, 0, 0
+    for number in range(1, count + 1):
+        with tempfile.TemporaryDirectory() as room:
+            found = compared(program, number, seed, *how, Path(room))
+        if found is None:
+            skipped += 1
+            continue
+        ends[found[1][0]] = ends.get(found[1][0], 0) + 1
+        for word in re.findall(rb"^\d+ (ok|value|result|refused \w+)", found[1][1], re.M):
+            rows[word.decode()] = rows.get(word.decode(), 0) + 1
+        if found[0] != found[1]:
+            differ += 1
+            print(f"workload {number} differs: --only {number} shows it")
+    by_status = ", ".join(f"{times} with status {status}" for status, times in sorted(ends.items()))
+    print(f"{count} workloads from seed {seed}: {differ} differ; {by_status}; {skipped} too large for the replayer")
+    print("lines: " + ", ".join(f"{times} {row}" for row, times in sorted(rows.items())))
+    return 1 if differ else 0
+
+
+def main(words):
+    not_built, only, verbs = replay.NOT_BUILT, None, VERBS
+    while words and words[0] in ("--only", "--built", "--verbs"):
+        option, given, *words = words
+        only = int(given) if option == "--only" else only
+        not_built = not_built - {*given.split(",")} if option == "--built" else not_built
+        verbs = given.encode().split(b",") if option == "--verbs" else verbs
+    count, seed, program, *_ = [*words, *["1000", "1", str(TOP / "crates/dyntensor/out/dyntensor")][len(words) :]]
+    program = str(Path(program).resolve())
+    how = seed, not_built, verbs
+    return one(program, only, *how) if only else many(program, int(count), *how)
+
+
+if __name__ == "__main__":
+    sys.exit(main(sys.argv[1:]))
