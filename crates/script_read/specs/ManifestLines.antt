@@ -62,7 +62,7 @@ three_words verb name file =
     if equals_text (codes "load") verb then option_and_then (λ n. option_map (λ f. Whole (Load n f)) (file_in file)) (name_in name) else None
 
 -- the line of these words: `schema FILE`, `session FILE`, `print NAME`, `load NAME FILE`, or
--- `tensor NAME D1 .. Dr as S1 .. Sr latches L` with r from 1 to 5
+-- `tensor NAME D.. as S.. latches L` with 1 to 5 dimensions and as many schemas
 abbrev pub item_line : List (List ℕ) → Option ItemLine
 item_line (v ∷ x ∷ []) = two_words v x
 item_line (v ∷ x ∷ y ∷ []) = three_words v x y

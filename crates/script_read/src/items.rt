@@ -11,7 +11,7 @@ pub enum Item {
     Schema {
         file: FileName,
     },
-    /// `tensor NAME D1 .. Dr as S1 .. Sr latches L`: a tensor, with the schema of each mode by name.
+    /// `tensor NAME D.. as S.. latches L`: a tensor, with the schema of each mode by name.
     Tensor {
         name: Name,
         dims: Coords,
