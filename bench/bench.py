@@ -24,6 +24,8 @@ PROGRAM = HERE.parent / "crates/dyntensor/out/dyntensor"
 TURNS = 5
 ROW_SECONDS = 0.3
 MOST_IN_A_ROW = 20
+# Of a shorter time no ratio is printed.
+LEAST_SECONDS = 0.001
 KIB_IN_MIB = 1024
 
 
@@ -71,18 +73,18 @@ def timed_turn(program, folder, count):
 
 
 def measured(programs, folders):
-    """The median seconds and the peak memory in KiB of each program on each workload."""
+    """The median seconds and the peak memory in KiB of each program, by its place, on each workload."""
     counts, peaks = {}, {}
-    for program in programs:
+    for which, program in enumerate(programs):
         for folder in folders:
             seconds, peak = timed_run(program, folder)
-            counts[program, folder] = max(1, min(MOST_IN_A_ROW, round(ROW_SECONDS / seconds)))
-            peaks[program, folder] = peak_of([program, "run", "m"], folder) or peak
+            counts[which, folder] = max(1, min(MOST_IN_A_ROW, round(ROW_SECONDS / seconds)))
+            peaks[which, folder] = peak_of([program, "run", "m"], folder) or peak
     turns = {it: [] for it in counts}
     for _ in range(TURNS):
         for folder in folders:
-            for program in programs:
-                turns[program, folder].append(timed_turn(program, folder, counts[program, folder]))
+            for which, program in enumerate(programs):
+                turns[which, folder].append(timed_turn(program, folder, counts[which, folder]))
     return {it: (sorted(seconds)[TURNS // 2], peaks[it]) for it, seconds in turns.items()}
 
 
@@ -105,18 +107,26 @@ def bench_family(family, programs, room):
     print("|---|---|---|---|---|" + "---|---|" * (len(programs) > 1))
     for kind in kinds:
         for size in sizes:
-            print(row(kind, size, sizes, programs, found, folders))
+            print(row(kind, size, sizes[0], {(which, n): found[which, folders[kind, n]] for which in range(len(programs)) for n in sizes}))
+    if "loaded" in kinds:
+        for size in sizes:
+            print(row("query without loading", size, sizes[0], {(which, n): without_loading(found, folders, which, n) for which in range(len(programs)) for n in sizes}))
     print()
 
 
-def row(kind, size, sizes, programs, found, folders):
-    seconds, peak = found[programs[0], folders[kind, size]]
-    shorter = found[programs[0], folders[kind, sizes[0]]][0]
-    grew = f"{math.log(seconds / shorter) / math.log(size / sizes[0]):.2f}" if size != sizes[0] else ""
-    cells = [kind, f"{size:,}", f"{seconds:.3f}", f"{peak / KIB_IN_MIB:.1f}", grew]
-    if len(programs) > 1:
-        other, others_peak = found[programs[1], folders[kind, size]]
-        cells += [f"{seconds / other:.2f}", f"{peak / others_peak:.2f}"]
+def without_loading(found, folders, which, size):
+    """The seconds that a query takes beside loading. It has no peak memory, since the two peaks needn't be at one time."""
+    return found[which, folders["query", size]][0] - found[which, folders["loaded", size]][0], None
+
+
+def row(kind, size, least, found):
+    seconds, peak = found[0, size]
+    shorter = found[0, least][0]
+    grew = f"{math.log(seconds / shorter) / math.log(size / least):.2f}" if size != least and min(seconds, shorter) > LEAST_SECONDS else ""
+    cells = [kind, f"{size:,}", f"{seconds:.4f}", f"{peak / KIB_IN_MIB:.1f}" if peak else "", grew]
+    if (1, size) in found:
+        other, others_peak = found[1, size]
+        cells += [f"{seconds / other:.2f}" if min(seconds, other) > LEAST_SECONDS else "", f"{peak / others_peak:.2f}" if peak else ""]
     return "| " + " | ".join(cells) + " |"
 
 

@@ -2,9 +2,12 @@
 """Compares a program with the replayer at each limit, and on lines with two faults: python3 tools/edge_workloads.py [PROGRAM]
 
 Makes a workload at each limit of docs/FORMATS.md and one past it, one for each cause of a refusal beside a later cause on
-the same line, and some odd files. It runs PROGRAM on each (crates/dyntensor/out/dyntensor if left out), compares status and
-output with what tools/replay.py says, and prints a line for each workload. It ends with status 1 if one differs. It is no
-part of the gate.
+the same line, one for each statement of tools/edge_statements.py, and some odd files. It runs PROGRAM on each
+(crates/dyntensor/out/dyntensor if left out), compares status and output with what tools/replay.py says, and prints a line for
+each workload. It ends with status 1 if one differs. It is no part of the gate.
+
+These words may stand in front: `--built FORM,..` takes these forms of the replayer's NOT_BUILT as built, and `--only WORD`
+leaves out the workloads whose names don't begin with WORD.
 """
 
 import subprocess
@@ -13,6 +16,7 @@ import tempfile
 from pathlib import Path
 
 import replay
+from edge_statements import ANSWERED, ANSWERED_LARGE, LARGE, REFUSED, SESSIONS, TENSORS, files_of, refused
 
 TOP = Path(__file__).resolve().parent.parent
 SECONDS = 120
@@ -110,12 +114,39 @@ def scripts():
         yield line[:24].decode().strip(), line
     for size in (4096, 4097):
         yield f"a line of {size} bytes", padded(b"get v 1", size)
+    yield "a cell that becomes 0", b"add v 3 7\nadd v 3 -7\nquery a(i) = v(i)"
+    yield "a statement that is cut off", b"query A(i,j) = B(i,k"
     for count in (65_536, 65_537):
         yield f"{count} lines", b"# lines\n" + b"get v 1\n" * count
 
 
+def statements():
+    """The statements with an answer, the refused ones and those between updates; each alone, and all in one script."""
+    for text, _ in ANSWERED:
+        yield text, files_of(TENSORS, f"query {text}")
+    for text, _ in ANSWERED_LARGE:
+        yield text, files_of(LARGE, f"query {text}")
+    lines = [refused(*row)[0] for row in REFUSED]
+    for line in lines:
+        yield line, files_of(TENSORS, line)
+    for script, _ in SESSIONS:
+        yield script, files_of(TENSORS, script)
+    yield "all in one script", files_of(TENSORS, " / ".join([*(f"query {text}" for text, _ in ANSWERED), *lines]))
+    for size in (4096, 4097):
+        yield f"a line of {size} bytes", files_of(TENSORS, padded(b"query a = x(i)", size).decode())
+        yield f"a refused line of {size} bytes", files_of(TENSORS, padded(b"query a = x(i) x", size).decode())
+        yield f"a statement of {size} bytes", files_of(TENSORS, "query a =" + " " * (size - 13) + "x(i)")
+    for count in (65_536, 65_537):
+        yield f"{count} statements", files_of(TENSORS, "query a = x(i) * 2\n" * count)
+    for odd in (b"\xff", b"\x00", b"\r", b"\x0b", b"\xc2\xa0"):
+        script = b"query a = x(i)" + odd + b" + x(i)\nquery a = x(i)" + odd + b"\n" + odd + b"query a = x(i)"
+        yield f"the bytes {odd.hex()}", {**files_of(TENSORS, ""), "s": script}
+
+
 def workloads():
     """A name and the files of each."""
+    for name, files in statements():
+        yield f"statement: {name}", files
     for name, text in manifests():
         yield f"manifest: {name}", {"m": text, "s": b"", "f" * 255: b""}
     for name, text in data():
@@ -138,8 +169,8 @@ def workloads():
         yield f"{count} lines in two files", {"m": V + b"load v t\nload v u\nprint v\n", "t": lines[:half], "u": lines[half:]}
     for updates in (2, 3):
         lines = b"1 1\n" * 699_998
-        script = b"get v 1\nset v 9 1\n" + b"add v 1 1\n" * updates
-        yield f"699998 lines and {updates} updates", {"m": V + b"load v t\nsession s\nprint v\n", "t": lines, "s": script}
+        script = b"get v 1\nset v 9 1\nquery a = v(i)\nquery a = v(j)\nquery a\n" + b"add v 1 1\n" * updates
+        yield f"699998 lines, {updates} updates and queries", {"m": V + b"load v t\nsession s\nprint v\n", "t": lines, "s": script}
 
 
 def ran(program, folder):
@@ -148,16 +179,23 @@ def ran(program, folder):
 
 
 def main(words):
+    not_built, first = replay.NOT_BUILT, ""
+    while words and words[0].startswith("--"):
+        option, given, *words = words
+        not_built = not_built - {*given.split(",")} if option == "--built" else not_built
+        first = given if option == "--only" else first
     program = str(Path(words[0] if words else TOP / "crates/dyntensor/out/dyntensor").resolve())
     differ = count = 0
     for name, files in workloads():
+        if not name.startswith(first):
+            continue
         with tempfile.TemporaryDirectory() as room:
             for file, text in files.items():
                 (Path(room) / file).write_bytes(text)
-            found, wanted = ran(program, room), replay.run([b"run", b"m"], room)
+            found, wanted = ran(program, room), replay.run([b"run", b"m"], room, not_built)
         count += 1
         shown = " / ".join(wanted[1][:SHOWN].decode(errors="replace").splitlines())
-        print(f"{'same' if found == wanted else 'DIFFERS'}: {name}: status {wanted[0]}, {shown}")
+        print(f"{'same' if found == wanted else 'DIFFERS'}: {name[:SHOWN]}: status {wanted[0]}, {shown}")
         if found != wanted:
             differ += 1
             print(f"    the program: status {found[0]}, {' / '.join(found[1][:SHOWN].decode(errors='replace').splitlines())}")

@@ -6,9 +6,13 @@ something broken in them, or that are random bytes. It runs PROGRAM on each (cra
 and compares status and output with what tools/replay.py says. It prints each workload that differs, with its number,
 and ends with status 1 if there is one. It is no part of the gate.
 
-A workload is made from SEED and its number alone. With `--only NUMBER` in front that one is run, and its files are
-kept; with `--built FORM,..` in front the forms of the replayer's NOT_BUILT are taken as built; with `--verbs VERB,..` in
-front scripts have lines of these alone, as `--verbs query` for statements.
+A workload is made from SEED and its number alone. These words may stand in front:
+
+- `--statements`: COUNT is that of statements (20,000 if left out), of which each workload has 200, with updates between
+  them; three in five have an answer, and in the others something is broken.
+- `--only NUMBER`: that workload is run, and its files are kept.
+- `--built FORM,..`: these forms of the replayer's NOT_BUILT are taken as built.
+- `--verbs VERB,..`: scripts have lines of these alone, as `--verbs get,query`.
 """
 
 import random
@@ -19,11 +23,13 @@ import tempfile
 from pathlib import Path
 
 import replay
+from random_statements import Maker as Statements
+from stored_runs import first_difference
 
 TOP = Path(__file__).resolve().parent.parent
 SECONDS = 60
+STATEMENTS = 200
 NAMES = [b"v", b"A", b"B", b"_x", b"as", b"flat", b"n" * 32, b"Ab9_"]
-VARIABLES = [b"i", b"j", b"k", b"l", b"A", b"_m", b"i2", b"n", b"o", b"p"]
 DIMENSIONS = [1, 2, 2, 3, 3, 4, 4, 5, 7]
 INDICES = [b"0", b"1", b"2", b"3", b"4", b"007", b"5", b"8", b"4294967295", b"4294967296", b"9" * 30, b"-1", b"+2", b"1.0", b"x", b"2;"]
 VALUES = [
@@ -32,7 +38,6 @@ VALUES = [
     *(b"1e-1 .5 5.e0 nan 1e 1e1000 1e+ 1e-1000 ++1 -+1 1.2.3 0x1 1_0 - + 1e18 184467440737095516150e-1 0.5e1 25e-2").split(),
 ]
 VERBS = [b"set", b"set", b"add", b"add", b"get", b"get", b"query", b"batch"]
-TOKENS = [b"(", b")", b",", b"=", b"+", b"-", b"*", b"1", b"2b", b"18446744073709551616", b"i", b"A", b"$", b"n" * 33, b";"]
 
 
 class Maker:
@@ -159,7 +164,7 @@ class Maker:
         if verb.decode() in self.not_built and not self.breaks(0.02):
             verb = b"add"
         if verb == b"query":
-            return b"query " + self.statement()
+            return b"query " + Statements(self.chance, self.tensors).text(0.5 if self.is_broken else 0)
         if verb == b"batch":
             return self.mangled(b"batch " + b" ; ".join(self.update() for _ in range(65 if self.breaks(0.02) else self.chance.choice([1, 2, 3, 64]))))
         return self.mangled(self.update(verb))
@@ -170,57 +175,32 @@ class Maker:
         at = self.coordinates(self.tensors.get(name, [3]))
         return b" ".join([verb, name, *at, *([] if verb == b"get" else [self.value()])])
 
-    # ---- statements
 
-    def statement(self):
-        """A statement whose variables have one dimension each, as a rule."""
-        self.dims = {}
-        right = self.sum(self.chance.choice([0, 1, 1, 2, 3]))
-        left = self.chance.sample([*self.dims], self.chance.randint(0, min(3, len(self.dims)))) if not self.odds(0.3) else self.common(right)
-        if self.breaks(0.05):
-            left.append(self.chance.choice(VARIABLES))
-        text = b"%s%s = %s" % (self.chance.choice(NAMES), b"(%s)" % b",".join(left) if left else b"", right)
-        if self.breaks(0.1):
-            at = self.chance.randrange(len(text) + 1)
-            text = text[:at] + self.chance.choice(TOKENS) + text[at:]
-        if self.breaks(0.05):
-            at = self.chance.randrange(len(text))
-            text = text[:at] + text[at + 1 :]
-        return text.replace(b" ", self.chance.choice([b" ", b"", b"  ", b"\t"])) if self.odds(0.2) else text
+class StatementMaker(Maker):
+    """Makes a workload of many statements over small tensors, with updates between them."""
 
-    def common(self, right):
-        """The variables that stand in each access, in the order of the first one."""
-        found = [it.split(b")")[0].split(b",") for it in right.split(b"(") if b")" in it]
-        return [it for it in dict.fromkeys(found[0]) if it in self.dims and all(it in other for other in found)] if found else []
+    def __init__(self, chance):
+        super().__init__(chance, set())
+        self.is_broken = False
 
-    def sum(self, depth):
-        text = b"-" if self.odds(0.1) else b""
-        text += self.product(depth)
-        for _ in range(self.chance.choice([0, 0, 1, 1, 2])):
-            text += self.chance.choice([b" + ", b" - "]) + self.product(depth)
-        return text
-
-    def product(self, depth):
-        return b" * ".join(self.factor(depth) for _ in range(self.chance.choice([1, 1, 2, 2, 3])))
-
-    def factor(self, depth):
-        if depth and self.odds(0.3):
-            return b"(" + self.sum(depth - 1) + b")"
-        if self.odds(0.1):
-            return b"%d" % self.chance.choice([0, 1, 2, 2**64 - 1, 2**64 if self.breaks() else 7])
-        name = b"nobody" if self.breaks(0.02) else self.chance.choice([*self.tensors])
-        variables = [self.variable(dim) for dim in self.tensors.get(name, [3])]
-        if self.breaks(0.03):
-            variables = variables[1:] or [*variables, b"i"]
-        return b"%s(%s)" % (name, b",".join(variables))
-
-    def variable(self, dim):
-        """A variable that has this dimension already, or a new one."""
-        same = [name for name, known in self.dims.items() if known == dim]
-        fresh = [name for name in VARIABLES[:6] if name not in self.dims]
-        name = self.chance.choice(same) if same and (self.odds(0.7) or not fresh) else self.chance.choice(fresh or VARIABLES)
-        self.dims.setdefault(name, dim)
-        return name
+    def workload(self):
+        dims = self.chance.choice([[2], [2, 3], [3, 2], [1, 2, 4], [3, 4_294_967_295], [40, 3]])
+        for name in self.chance.sample(NAMES, self.chance.choice([2, 4, 6, 8])):
+            self.tensors[name] = [self.chance.choice(dims) for _ in range(self.chance.choice([1, 1, 2, 2, 2, 3, 4, 5]))]
+        lines = []
+        for name, dims in self.tensors.items():
+            self.files[name] = b"".join(self.tns_line(name) + b"\n" for _ in range(self.chance.choice([0, 4, 12, 30])))
+            flats, latches = b" ".join([b"flat"] * len(dims)), self.chance.choice([1, 2, 5])
+            lines.append(b"tensor %s %s as %s latches %d" % (name, b" ".join(b"%d" % it for it in dims), flats, latches))
+        lines += [b"load %s %s" % (name, name) for name in self.tensors]
+        self.files[b"m"] = b"\n".join([*lines, b"session s", *(b"print " + name for name in self.tensors), b""])
+        statements = Statements(self.chance, self.tensors)
+        script = []
+        for _ in range(STATEMENTS):
+            script += [self.update() for _ in range(self.chance.choice([0, 0, 0, 1, 2]))]
+            script.append(b"query " + statements.text())
+        self.files[b"s"] = b"\n".join(script)
+        return self.files, [b"run", b"m"]
 
 
 def make_files(folder, files):
@@ -233,57 +213,60 @@ def ran(program, words, folder):
     return found.returncode, found.stdout
 
 
-def compared(program, number, seed, not_built, verbs, room):
-    """What the program and the replayer answer on one workload, or None where it is too large for the replayer."""
-    files, words = Maker(random.Random(f"{seed} {number}"), not_built, verbs).workload()
+def made(number, seed, not_built, verbs, is_statements):
+    """The files and the words of a workload."""
+    chance = random.Random(f"{seed} {number}")
+    return (StatementMaker(chance) if is_statements else Maker(chance, not_built, verbs)).workload()
+
+
+def compared(program, number, how, room):
+    """What the program and the replayer answer on one workload."""
+    files, words = made(number, *how)
     make_files(room, files)
-    try:
-        wanted = replay.run(words, room, not_built)
-    except ValueError:
-        return None
-    return ran(program, words, room), wanted
+    return ran(program, words, room), replay.run(words, room, how[1])
 
 
-def one(program, number, *how):
+def one(program, number, how):
     room = Path(tempfile.mkdtemp(prefix=f"workload-{number}-"))
-    found = compared(program, number, *how, room)
+    found = compared(program, number, how, room)
     print(f"the files are in {room}")
-    for who, (status, text) in zip(("the program", "the replayer"), found or []):
+    for who, (status, text) in zip(("the program", "the replayer"), found):
         print(f"{who} ends with status {status}:\n{text.decode(errors='replace')}")
-    return 0 if not found or found[0] == found[1] else 1
+    return 0 if found[0] == found[1] else 1
 
 
-def many(program, count, seed, *how):
-    ends, rows, differ, skipped = {}, {}, 0, 0
+def many(program, count, how):
+    ends, rows, differ = {}, {}, 0
     for number in range(1, count + 1):
         with tempfile.TemporaryDirectory() as room:
-            found = compared(program, number, seed, *how, Path(room))
-        if found is None:
-            skipped += 1
-            continue
-        ends[found[1][0]] = ends.get(found[1][0], 0) + 1
-        for word in re.findall(rb"^\d+ (ok|value|result|refused \w+)", found[1][1], re.M):
+            found, wanted = compared(program, number, how, Path(room))
+        ends[wanted[0]] = ends.get(wanted[0], 0) + 1
+        for word in re.findall(rb"^\d+ (ok|value|result|refused \w+)", wanted[1], re.M):
             rows[word.decode()] = rows.get(word.decode(), 0) + 1
-        if found[0] != found[1]:
+        if found != wanted:
             differ += 1
-            print(f"workload {number} differs: --only {number} shows it")
+            print(f"workload {number} differs in line {first_difference(found[1], wanted[1])}: --only {number} shows it")
     by_status = ", ".join(f"{times} with status {status}" for status, times in sorted(ends.items()))
-    print(f"{count} workloads from seed {seed}: {differ} differ; {by_status}; {skipped} too large for the replayer")
+    print(f"{count} workloads from seed {how[0]}: {differ} differ; {by_status}")
     print("lines: " + ", ".join(f"{times} {row}" for row, times in sorted(rows.items())))
     return 1 if differ else 0
 
 
 def main(words):
-    not_built, only, verbs = replay.NOT_BUILT, None, VERBS
-    while words and words[0] in ("--only", "--built", "--verbs"):
-        option, given, *words = words
+    not_built, only, verbs, is_statements = replay.NOT_BUILT, None, VERBS, False
+    while words and words[0].startswith("--"):
+        option, *words = words
+        if option == "--statements":
+            is_statements = True
+            continue
+        given, *words = words
         only = int(given) if option == "--only" else only
         not_built = not_built - {*given.split(",")} if option == "--built" else not_built
         verbs = given.encode().split(b",") if option == "--verbs" else verbs
-    count, seed, program, *_ = [*words, *["1000", "1", str(TOP / "crates/dyntensor/out/dyntensor")][len(words) :]]
-    program = str(Path(program).resolve())
-    how = seed, not_built, verbs
-    return one(program, only, *how) if only else many(program, int(count), *how)
+    count, seed, program, *_ = [*words, *["20000" if is_statements else "1000", "1", str(TOP / "crates/dyntensor/out/dyntensor")][len(words) :]]
+    program, count = str(Path(program).resolve()), int(count)
+    how = seed, not_built, verbs, is_statements
+    return one(program, only, how) if only else many(program, -(-count // STATEMENTS) if is_statements else count, how)
 
 
 if __name__ == "__main__":

@@ -13,7 +13,8 @@ import re
 import sys
 from pathlib import Path
 
-from replay_statements import LineRefused, answer, read_statement
+from replay_answers import answer
+from replay_statements import LineRefused, read_statement
 
 NOT_BUILT = {"schema", "session", "query", "batch"}
 USAGE = b"usage: dyntensor run MANIFEST | check SCHEMAS | sample N\n"

@@ -1,9 +1,10 @@
-"""What the replayer knows of statements: how a `query` line is read and refused, and what it answers.
+"""What the replayer knows of statements: how the statement of a `query` line is read, refused and written.
 
-An answer is made by running through all coordinates of the statement's variables, so it is for small dimensions.
+A statement is its left name, its left variables and its right side. The right side is a tree of tuples: ("literal", N),
+("access", TENSOR, VARIABLES), ("-", E) for a negation, and (SIGN, E, E) for a sum, a difference or a product.
+tools/replay_answers.py has what it answers.
 """
 
-import itertools
 import re
 
 MODULUS = 2**64
@@ -13,7 +14,8 @@ NAME_LIMIT = 32
 MOST_ACCESSES = MOST_LITERALS = 12
 MOST_VARIABLES = 8
 MOST_PARENTHESES = 16
-MOST_PLACES = 3_000_000
+# Sums, differences and negations.
+SUMS = {"+", "-"}
 
 
 class LineRefused(Exception):
@@ -197,44 +199,33 @@ def fault_of(left, right, tensors):
 
 def read_statement(line, start, end, tensors):
     """The statement of a line, behind its first word."""
-    _, left, right = Reader(line, start - 1, end).statement()
-    why = fault_of(left, right, tensors)
+    statement = Reader(line, start - 1, end).statement()
+    why = fault_of(*statement[1:], tensors)
     if why:
         raise LineRefused(why)
-    return "query", (left, right)
+    return "query", statement
 
 
-# ---- answers
+# ---- canonical text
 
 
-def answer(statement, tensors, cells):
-    """The number at each place of the left variables, as a dict."""
-    left, right = statement
-    dims = {}
-    for name, variables in accesses_of(right):
-        for variable, dim in zip(variables, tensors[name]):
-            dims.setdefault(variable, dim)
-    found = {}
-    for sign, tree in terms_of(right):
-        variables = left + own_variables(tree, left)
-        count = 1
-        for variable in variables:
-            count *= dims[variable]
-        if count > MOST_PLACES:
-            raise ValueError(f"a term of {count} places is too large for this replayer")
-        for numbers in itertools.product(*(range(1, dims[it] + 1) for it in variables)):
-            at = numbers[: len(left)]
-            value = value_at(tree, dict(zip(variables, numbers)), cells)
-            found[at] = (found.get(at, 0) + sign * value) % MODULUS
-    return found
+def text_of(statement):
+    """The canonical text: no parenthesis and no blank that isn't needed."""
+    name, left, right = statement
+    return name + (b"(%s)" % b",".join(left) if left else b"") + b" = " + text_of_tree(right)
 
 
-def value_at(tree, numbers, cells):
+def text_of_tree(tree):
     if tree[0] == "literal":
-        return tree[1]
+        return b"%d" % tree[1]
     if tree[0] == "access":
-        return cells[tree[1]].get(tuple(numbers[it] for it in tree[2]), 0)
-    sides = [value_at(side, numbers, cells) for side in tree[1:]]
-    if tree[0] == "*":
-        return sides[0] * sides[1]
-    return sides[0] + sides[1] if tree[0] == "+" else sides[0] - sides[1] if len(sides) == 2 else -sides[0]
+        return b"%s(%s)" % (tree[1], b",".join(tree[2]))
+    if len(tree) == 2:
+        return b"-" + operand(tree[1], SUMS)
+    first, second = (SUMS, SUMS | {"*"}) if tree[0] == "*" else (set(), SUMS)
+    return b"%s %s %s" % (operand(tree[1], first), tree[0].encode(), operand(tree[2], second))
+
+
+def operand(tree, enclosed):
+    """The text of an operand, in parentheses if it is of one of these forms."""
+    return b"(%s)" % text_of_tree(tree) if tree[0] in enclosed else text_of_tree(tree)

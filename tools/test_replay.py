@@ -1,7 +1,6 @@
 #!/usr/bin/env python3
 """Tests of the replayer: worked rows, and that each example stores what it prints."""
 
-import random
 import re
 import tempfile
 import unittest
@@ -134,8 +133,9 @@ class Replay(unittest.TestCase):
                 self.assertEqual(status, int((folder / "status").read_text()) if (folder / "status").is_file() else 0)
 
     def test_random_workloads_are_made_of_their_seed(self):
-        made = [random_workloads.Maker(random.Random("3 4"), NOT_BUILT).workload() for _ in range(2)]
-        self.assertEqual(made[0], made[1])
+        for is_statements in (False, True):
+            made = [random_workloads.made(4, "3", NOT_BUILT, random_workloads.VERBS, is_statements) for _ in range(2)]
+            self.assertEqual(made[0], made[1])
 
 
 if __name__ == "__main__":

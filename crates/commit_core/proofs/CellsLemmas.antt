@@ -1,5 +1,5 @@
 -- The cells of one tensor: what a search finds among them, and what an edit at that index does.
-use Rattle.std.proofs.Common.{inl, inr, ◌≡◌, ◌≢◌, ℕ, zero, suc, ◌+◌, ◌-◌, ◌%◌, ◌^◌, ◌<◌, ◌≤◌, Bool, true, false, List, [], ◌∷◌, length, get_or, set, length-set, refl, ap, sym, ◌∙◌, subst, arith, sum_by, Result, Ok, Err, IfOk, IfErr}
+use Rattle.std.proofs.Common.{inl, inr, ◌≡◌, ◌≢◌, ℕ, zero, suc, ◌+◌, ◌-◌, ◌%◌, ◌^◌, ◌<◌, ◌≤◌, true, false, List, [], ◌∷◌, length, get_or, set, length-set, refl, ap, sym, ◌∙◌, subst, arith, sum_by, Result, Ok, Err, IfOk, IfErr}
 use Rattle.std.specs.Prelude.{◌⊎◌, if◌then◌else◌, nat_eq}
 use Rattle.std.specs.Cmp.Lexicographic.{pointwise, slice_cmp, texts_ties, nat_list_cmp_total}
 use Rattle.std.specs.FinMap.{slice_cmp-IsAntisymmetric, nat_cmp-IsAntisymmetric}

@@ -1,26 +1,26 @@
 -- Loaded lines: the contents that the lines of one tensor make, and those of all.
-use Rattle.std.proofs.Common.{◌≡◌, ◌≢◌, ℕ, ◌+◌, ◌%◌, ◌^◌, ◌<◌, true, false, List, [], ◌∷◌, ◌++◌, zero, suc, length, get_or, take, drop, map, refl, ap, sym, ◌∙◌, arith, subst, Some}
-use Rattle.std.specs.Prelude.{if◌then◌else◌, ◌==◌, ◌&&◌, not, nat_eq, fold, All, slice_get}
+use Rattle.std.proofs.Common.{◌≡◌, ◌≢◌, ℕ, ◌+◌, ◌%◌, ◌^◌, ◌<◌, true, false, List, [], ◌∷◌, ◌++◌, zero, suc, length, get_or, take, drop, refl, ap, sym, ◌∙◌, arith, subst, Some}
+use Rattle.std.specs.Prelude.{◌==◌, nat_eq, fold, All, slice_get}
 use Rattle.std.specs.Cmp.Lexicographic.{pointwise}
-use Rattle.std.specs.List.{enumerate_from, list_all}
+use Rattle.std.specs.List.{enumerate_from}
 use Rattle.std.proofs.lemmas.Bool.Decides.{nat_tests}
 use Rattle.std.proofs.lemmas.List.{drop_more, take_more, get_or-map, length-map, map-append}
 use Rattle.std.proofs.lemmas.Option.{get_or_from_slice_get}
-use Rattle.std.proofs.lemmas.List.Elements.{All-weaker, filter-append}
+use Rattle.std.proofs.lemmas.List.Elements.{All-weaker}
 use Rattle.std.proofs.lemmas.List.Sums.{sum_by-cons, AllPass-from_list_all}
 use Rattle.std.proofs.lemmas.Slice.Eq.{bytes_eq-Decides}
 use Rattle.std.proofs.Math.Nat.{mod-add-mod, mod-eq_of_lt, mod-lt}
 use Rattle.dt_model.specs.declared.declared_tensors.Decls.{Decls}
 use Rattle.dt_model.specs.declared.declared_tensors.TensorDecl.{TensorDecl}
 use Rattle.dt_model.specs.declared.replies.World.{World}
-use Rattle.dt_model.specs.Contents.{Contents, same_cell, with_more}
+use Rattle.dt_model.specs.Contents.{Contents, with_more}
 use Rattle.dt_model.specs.Pairs.{total_at}
 use Rattle.dt_model.specs.Runs.{with_lines}
 use Rattle.dt_model.specs.Tensors.{dims_of, dims_in}
 use Rattle.dt_model.specs.Verdicts.{all_in_range}
 use Rattle.dt_model.specs.Worlds.{IsValid, loads_are_valid}
 use Rattle.dt_model.proofs.WorldsLemmas.{as_many_bases}
-use Rattle.commit_core.specs.Cells.{Cells, cells_of, contents_of, without_zeros}
+use Rattle.commit_core.specs.Cells.{Cells, cells_of, contents_of}
 use Rattle.commit_core.specs.CellListState.{CellListState, all_cells, all_orders}
 use Rattle.commit_core.specs.Orders.{orders_of}
 use Rattle.commit_core.proofs.CellsLemmas.{value_at, sum_at}
@@ -117,22 +117,6 @@ base_more old new y t base lines all l is len grew sums so_far =
     ap (λ m. fold (λ n p. with_lines n p.0 p.1) m (enumerate_from (t + 1) (drop (t + 1) base))) made
     ∙ ap (λ xs. fold (λ m p. with_lines m p.0 p.1) (contents_of (all_cells old)) (enumerate_from t xs)) (sym rest)
     ∙ so_far
-
--- ---- the lines as far as they are read
-
--- one line more
-pub take-found : {X : Type 0} (xs : List X) (i : ℕ) (x : X) → slice_get xs i ≡ Some x → take (i + 1) xs ≡ take i xs ++ x ∷ []
-take-found xs i x e = let one : i + 1 ≡ suc i = omega arith in ap (λ n. take n xs) one ∙ go xs i x e
-  where
-    go : {X : Type 0} (xs : List X) (i : ℕ) (x : X) → slice_get xs i ≡ Some x → take (suc i) xs ≡ take i xs ++ x ∷ []
-    go [] i x e = cc
-    go (y ∷ ys) zero x e = let same : y ≡ x = cc in ap (λ z. z ∷ []) same
-    go (y ∷ ys) (suc i) x e = ap (λ t. y ∷ t) (go ys i x e)
-
--- one cell more, unless it is 0
-pub without_zeros-found : (xs : Cells) (i : ℕ) (x : List ℕ × ℕ) → slice_get xs i ≡ Some x
-    → without_zeros (take (i + 1) xs) ≡ without_zeros (take i xs) ++ without_zeros (x ∷ [])
-without_zeros-found xs i x e = ap without_zeros (take-found xs i x e) ∙ filter-append (λ (p : List ℕ × ℕ). not (p.1 == 0)) (take i xs) (x ∷ [])
 
 -- ---- orders of lines
 

@@ -1,6 +1,6 @@
 -- The cells of a valid call have the orders of their tensors.
-use Rattle.std.proofs.Common.{◌≡◌, ℕ, ◌<◌, true, List, [], ◌∷◌, zero, suc, length, refl, ap, ◌∙◌, Some, map, subst}
-use Rattle.std.specs.Prelude.{◌&&◌, nat_lt, nat_le, slice_get, All}
+use Rattle.std.proofs.Common.{◌≡◌, ℕ, true, List, [], ◌∷◌, zero, suc, length, refl, ap, ◌∙◌, Some, map, subst}
+use Rattle.std.specs.Prelude.{◌&&◌, nat_lt, nat_le, slice_get}
 use Rattle.std.specs.List.{list_all}
 use Rattle.std.proofs.lemmas.List.Elements.{All-weaker}
 use Rattle.std.proofs.lemmas.List.Sums.{AllPass-from_list_all}

@@ -11,7 +11,6 @@ use Rattle.dt_model.specs.Tensors.{first_latch}
 use Rattle.dt_model.specs.Latches.{is_latch_of}
 use Rattle.std.proofs.lemmas.Bool.Decides.{nat_tests}
 use Rattle.dt_model.specs.declared.calls.Call.{Call}
-use Rattle.dt_model.specs.declared.calls.Call.TheVariants.{Get, Batch, Query}
 use Rattle.dt_model.specs.declared.replies.Verdict.{Verdict}
 use Rattle.dt_model.specs.declared.replies.Verdict.TheVariants.{Accepted, Refused}
 use Rattle.dt_model.specs.declared.declared_tensors.Decls.{Decls}

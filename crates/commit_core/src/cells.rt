@@ -1,6 +1,6 @@
 //! The cells of one tensor as one ascending list, packed by its order.
 
-ghost use Rattle.std.specs.Prelude.{◌≡◌, ◌+◌, ◌^◌, ◌++◌, ◌∷◌, [], ◌<◌, ◌≤◌, ℕ, List, All, length, slice_index_or, IfOk, IfErr, OnOk};
+ghost use Rattle.std.specs.Prelude.{◌≡◌, ◌+◌, ◌^◌, ◌<◌, ◌≤◌, ℕ, List, All, length, slice_index_or, IfOk, IfErr, OnOk};
 ghost use Rattle.dt_model.specs.Pairs.{total_at, IsAscending};
 ghost use Rattle.commit_core.specs.Cells.{IsAt, IsGapFor, Puts, without_zeros};
 
@@ -44,17 +44,6 @@ fn number_of(cells: &PackedPairs, index: usize) -> u64
         Some((_, value)) => value,
         None => unreachable!(),
     }
-}
-
-/// Puts a cell at the end, unless its number is 0.
-fn push_nonzero(pairs: &mut Nonzeros, cell: (Coords, u64)) -> Result<(), NoMemory>
-    ensures value { OnOk result (pairs.new ≡ pairs.old ++ without_zeros (cell ∷ [])) }
-    ensures small { OnOk result (All (λ p. p.1 < 2 ^ 64) pairs.old → All (λ p. p.1 < 2 ^ 64) pairs.new) }
-{
-    if cell.1 != 0 {
-        pairs.push(cell)?;
-    }
-    Ok(())
 }
 
 impl CellList {
@@ -106,19 +95,12 @@ impl CellList {
         }
     }
 
-    /// The cells whose number isn't 0, in ascending order.
+    /// The cells whose number isn't 0, in ascending order: one allocation.
     pub fn nonzeros(&self, alloc: Global) -> Result<Nonzeros, NoMemory>
         ensures value { IfOk result (λ pairs. pairs ≡ without_zeros self.now.cells) }
         ensures small { IfOk result (λ pairs. All (λ p. p.1 < 2 ^ 64) pairs) }
         ensures ascending { IsAscending self.now.cells }
     {
-        let mut pairs = Nonzeros::new(alloc);
-        for i in 0..self.cells.len() {
-            match self.cells.get(i) {
-                Some(cell) => push_nonzero(&mut pairs, cell)?,
-                None => unreachable!(),
-            }
-        }
-        Ok(pairs)
+        Nonzeros::nonzeros_of(alloc, &self.cells)
     }
 }

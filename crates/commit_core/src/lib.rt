@@ -1,10 +1,10 @@
 //! Takes, commits and gives as a pure machine with one legal history.
 //!
 //! `Core::open`, `Core::step` and `Core::run` make the events of a World's sessions happen, and
-//! `Core::possible` says which may; `journal`, `holder`, `reply` and `lost` read what has come of it.
-//! `loaded`, `number_at`, `reserve_all` and `apply_all` keep each tensor's cells as a `CellList`.
+//! `Core::possible` says which may; `journal`, `holder`, `reply` and `lost` read the state.
+//! `load_base` makes each tensor's cells as a `CellList`, and `make_call` makes a call over them.
 //! Clauses see a core as a `CoreState`, and a `CellList` as a `CellListState`. Read `Progress`, `is_possible`
-//! and `after` in `specs/Events.antt` first, `IsStep` in `specs/Steps.antt` for what an event is to the
+//! and `after_event` in `specs/Events.antt` first, `IsStep` in `specs/Steps.antt` for what an event is to the
 //! latch machine, `IsSound` in `specs/Sound.antt` for what holds after every call, and `contents_of` in
 //! `specs/Cells.antt` for what cells stand for.
 //! Sessions and calls are counted from 1, tensors, latches and places in the journal from 0; the journal's

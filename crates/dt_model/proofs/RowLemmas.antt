@@ -1,7 +1,7 @@
 -- Packed rows, seen as pairs.
 use Rattle.std.proofs.Common.{◌≡◌, ◌<◌, ◌≤◌, ◌+◌, ℕ, zero, suc, List, [], ◌∷◌, ◌++◌, map, length, take, get_or}
 use Rattle.std.proofs.Common.{false, true, Bool, cond, refl, ap, sym, ◌∙◌, arith, append_assoc, subst, set, Ordering, Less, Equal, Greater}
-use Rattle.std.specs.Prelude.{Result, Ok, Err, nat_eq, drop, ◌==◌, ◌%◌, ◌^◌}
+use Rattle.std.specs.Prelude.{Result, Ok, Err, nat_eq, not, drop, filter, ◌==◌, ◌%◌, ◌^◌}
 use Rattle.std.specs.Cmp.Lexicographic.{slice_cmp, pointwise}
 use Rattle.std.specs.Ordering.{nat_cmp, is_lt, ordering_then, ordering_index}
 use Rattle.std.specs.List.{insert}
@@ -128,3 +128,21 @@ IsBinarySearchResult-rows N r at rows (Err i) l h = λ up.
   where
     subst2 : {X : Type 0} (P : X → X → Type 0) {a b c d : X} → a ≡ b → c ≡ d → P a c → P b d
     subst2 P {a} {b} {c} {d} p q h = subst (λ x. P x d) p (subst (λ y. P a y) q h)
+
+-- ---- rows that aren't 0
+
+-- the pairs of the rows that aren't 0 are the pairs that aren't 0
+pub pairs_of_nonzero_rows : (N r : ℕ) (rows : List (Row N)) → map (pair_of N r) (filter (λ (row : Row N). not (row.value == 0)) rows)
+    ≡ filter (λ (p : List ℕ × ℕ). not (p.1 == 0)) (map (pair_of N r) rows)
+pairs_of_nonzero_rows N r [] = refl
+pairs_of_nonzero_rows N r (row ∷ rows) = go (not (row.value == 0)) (pairs_of_nonzero_rows N r rows)
+  where
+    kept : List (Row N)
+    kept = filter (λ (r : Row N). not (r.value == 0)) rows
+
+    pairs : List (List ℕ × ℕ)
+    pairs = filter (λ (p : List ℕ × ℕ). not (p.1 == 0)) (map (pair_of N r) rows)
+
+    go : (b : Bool) → map (pair_of N r) kept ≡ pairs → map (pair_of N r) (cond b (row ∷ kept) kept) ≡ cond b (pair_of N r row ∷ pairs) pairs
+    go false later = later
+    go true later = ap (λ ps. pair_of N r row ∷ ps) later

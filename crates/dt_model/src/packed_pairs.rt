@@ -1,6 +1,6 @@
 //! Pairs of one order in few bytes, with room for more.
 
-ghost use Rattle.std.specs.Prelude.{◌≡◌, ℕ, List, [], ◌∷◌, ◌++◌, ◌+◌, ◌≤◌, ◌<◌, length, All, OnOk, OnErr, IfOk, slice_get, slice_set};
+ghost use Rattle.std.specs.Prelude.{◌≡◌, ℕ, List, [], ◌∷◌, ◌++◌, ◌+◌, ◌≤◌, ◌<◌, ◌==◌, ◌^◌, not, length, filter, All, OnOk, OnErr, IfOk, slice_get, slice_set};
 ghost use Rattle.std.specs.List.{insert};
 ghost use Rattle.std.specs.List.Sorted.{IsBinarySearchResult, IsSearchInRange};
 ghost use Rattle.std.specs.Cmp.Lexicographic.{slice_cmp};
@@ -184,6 +184,21 @@ impl PackedPairs {
             Widths::Four(rows) => Widths::Four(rows.copy(alloc)?),
             Widths::Six(rows) => Widths::Six(rows.copy(alloc)?),
             Widths::Eight(rows) => Widths::Eight(rows.copy(alloc)?),
+        };
+        Ok(PackedPairs { rows })
+    }
+
+    /// The pairs whose value isn't 0, in the same order and without room: one allocation.
+    pub fn nonzeros(&self, alloc: Global) -> Result<PackedPairs, NoMemory>
+        ensures order { IfOk result (λ kept. kept.order ≡ self.now.order) }
+        ensures pairs { IfOk result (λ kept. kept.pairs ≡ filter (λ p. not (p.1 == 0)) self.now.pairs) }
+        ensures small { IfOk result (λ kept. All (λ p. p.1 < 2 ^ 64) kept.pairs) }
+    {
+        let rows = match &self.rows {
+            Widths::Two(rows) => Widths::Two(rows.nonzeros(alloc)?),
+            Widths::Four(rows) => Widths::Four(rows.nonzeros(alloc)?),
+            Widths::Six(rows) => Widths::Six(rows.nonzeros(alloc)?),
+            Widths::Eight(rows) => Widths::Eight(rows.nonzeros(alloc)?),
         };
         Ok(PackedPairs { rows })
     }

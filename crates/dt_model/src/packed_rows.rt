@@ -1,6 +1,6 @@
 //! Rows of N coordinates and a value: pairs of one order, in as few bytes as the order needs.
 
-ghost use Rattle.std.specs.Prelude.{◌≡◌, ℕ, List, [], ◌∷◌, ◌++◌, ◌+◌, ◌≤◌, ◌<◌, ◌==◌, length, take, drop, map, All, OnOk, OnErr, IfOk, slice_get, slice_set, if◌then◌else◌};
+ghost use Rattle.std.specs.Prelude.{◌≡◌, ℕ, List, [], ◌∷◌, ◌++◌, ◌+◌, ◌≤◌, ◌<◌, ◌==◌, ◌^◌, not, length, take, drop, map, filter, All, OnOk, OnErr, IfOk, slice_get, slice_set, if◌then◌else◌};
 ghost use Rattle.std.specs.List.{insert};
 ghost use Rattle.std.specs.List.Sorted.{IsBinarySearchResult, IsSearchInRange, IsPermutation};
 ghost use Rattle.std.specs.Cmp.Lexicographic.{slice_cmp};
@@ -174,6 +174,19 @@ impl<const N: usize> Rows<N> {
         })
     }
 
+    /// The pairs whose value isn't 0, in the same order: one allocation.
+    pub(crate) fn nonzeros(&self, alloc: Global) -> Result<Self, NoMemory>
+        ensures order { IfOk result (λ kept. kept.order ≡ self.now.order) }
+        ensures pairs { IfOk result (λ kept. kept.pairs ≡ filter (λ p. not (p.1 == 0)) self.now.pairs) }
+        ensures small { IfOk result (λ kept. All (λ p. p.1 < 2 ^ 64) kept.pairs) }
+    {
+        Ok(Rows {
+            order: self.order,
+            rows: nonzero_rows(alloc, self.rows.as_slice())?,
+            spare: 0,
+        })
+    }
+
     /// Adds up the pairs with the same coordinates, in ascending order and without zeros. It takes
     /// no memory, and where the pairs ascend already, time by their number.
     pub(crate) fn coalesce(&mut self)
@@ -251,6 +264,20 @@ fn gather_rows<const N: usize>(rows: &mut [Row<N>], order: usize) -> usize
         }
     }
     put_nonzero(rows, kept, last, order)
+}
+
+/// The rows whose value isn't 0, in the same order.
+fn nonzero_rows<const N: usize>(alloc: Global, rows: &[Row<N>]) -> Result<Vec<Row<N>>, NoMemory>
+    ensures value { IfOk result (λ kept. kept.items ≡ filter (λ row. not (row.value == 0)) rows.now) }
+    ensures small { IfOk result (λ kept. All (λ row. row.value < 2 ^ 64) kept.items) }
+{
+    let mut kept = Vec::with_capacity(alloc, rows.len())?;
+    for row in rows {
+        if row.value != 0 {
+            kept.push(*row)?;
+        }
+    }
+    Ok(kept)
 }
 
 /// Equal coordinates.

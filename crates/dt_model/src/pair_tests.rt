@@ -89,31 +89,29 @@ fn pairs_of_any_orders_are_kept(rt: HostRuntime) {
 }
 
 #[test]
-fn equal_coordinates_are_added_up(rt: HostRuntime) {
-    let most = 18_446_744_073_709_551_615;
-    let lists: [(&[(&[u32], u64)], &[(&[u32], u64)]); 6] = [
-        (&[], &[]),
-        (&[(&[2], 1), (&[1], 5), (&[2], 1)], &[(&[1], 5), (&[2], 2)]),
-        (&[(&[1, 9], 3), (&[2, 0], 4)], &[(&[1, 9], 3), (&[2, 0], 4)]),
-        (
-            &[(&[0, 1, 1], most), (&[0, 1, 0], 2), (&[0, 1, 1], 1)],
-            &[(&[0, 1, 0], 2)],
-        ),
-        (
-            &[(&[1, 1, 1, 1, 1], most), (&[1, 1, 1, 1, 1], 3)],
-            &[(&[1, 1, 1, 1, 1], 2)],
-        ),
-        (
-            &[(&[2], 0), (&[1, 1], 2), (&[1], 3), (&[1, 1], 4)],
-            &[(&[1], 3), (&[1, 1], 6)],
-        ),
-    ];
-    for (list, sums) in lists {
-        let mut pairs = Pairs::new(rt.alloc());
-        assert!(rt; push_all(&mut pairs, list));
-        pairs.coalesce();
-        assert!(rt; has(&pairs, sums));
-    }
+fn equal_coordinates_are_added_up(rt: HostRuntime) -> Result<(), Fail> {
+    let mut packed = PackedPairs::new(rt.alloc(), 2);
+    packed.push(&coords_of_two(2, 0), 4)?;
+    packed.push(&coords_of_two(1, 9), 18_446_744_073_709_551_615)?;
+    packed.push(&coords_of_two(2, 0), 1)?;
+    packed.push(&coords_of_two(1, 9), 1)?;
+    packed.push(&coords_of_two(0, 7), 3)?;
+    packed.coalesce();
+    assert_eq!(rt; packed.len(), 2);
+    assert!(rt; packed.get(0) == Some((coords(&[0, 7]), 3)));
+    assert!(rt; packed.get(1) == Some((coords(&[2, 0]), 5)));
+    Ok(())
+}
+
+#[test]
+fn nonzeros_leave_out_zeros(rt: HostRuntime) -> Result<(), Fail> {
+    let mut packed = PackedPairs::new(rt.alloc(), 2);
+    packed.push(&coords_of_two(1, 5), 3)?;
+    packed.push(&coords_of_two(2, 0), 0)?;
+    packed.push(&coords_of_two(4, 1), 6)?;
+    let nonzeros = Pairs::nonzeros_of(rt.alloc(), &packed)?;
+    assert!(rt; has(&nonzeros, &[(&[1, 5], 3), (&[4, 1], 6)]));
+    Ok(())
 }
 
 #[test]

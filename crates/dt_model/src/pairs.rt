@@ -1,12 +1,10 @@
 //! Lists of pairs: coordinates and a value, packed by their order.
 
-ghost use Rattle.std.specs.Prelude.{◌≡◌, ℕ, List, [], ◌∷◌, ◌++◌, ◌+◌, ◌≤◌, ◌<◌, length, take, drop, All, OnOk, OnErr, IfOk, IfErr, slice_get};
+ghost use Rattle.std.specs.Prelude.{◌≡◌, ℕ, List, [], ◌∷◌, ◌++◌, ◌≤◌, ◌<◌, ◌==◌, ◌^◌, not, length, drop, filter, All, OnOk, OnErr, IfOk, IfErr, slice_get};
 ghost use Rattle.std.specs.Cmp.{nat_eq_equiv, and_equiv, on_equiv, and_per, on_per, partial_equiv_from_equiv};
 ghost use Rattle.std.specs.Cmp.Lexicographic.{pointwise, lists_per, lists_equiv, nat_list_eq_equiv};
 ghost use Rattle.std.specs.Iterator.{YieldsFirst, item_count};
-ghost use Rattle.std.specs.List.Sorted.{IsPermutation};
-ghost use Rattle.dt_model.specs.Pairs.{IsAscending, total_at, same_pair};
-ghost use Rattle.dt_model.specs.Gathering.{gathered, IsNonDescending, with_nonzero};
+ghost use Rattle.dt_model.specs.Pairs.{same_pair};
 ghost use Rattle.dt_model.specs.Kept.{pairs_in};
 
 use crate::lists::{Back, NoMemory};
@@ -110,18 +108,15 @@ impl Pairs {
         }
     }
 
-    /// Adds up the pairs with the same coordinates modulo 2^64, and leaves them in ascending order
-    /// and without zeros. It takes no memory, and where the pairs ascend already, time by their
-    /// number.
-    pub fn coalesce(&mut self)
-        ensures ascending { IsAscending self.new }
-        ensures nonzero { All (λ p. 0 < p.1) self.new }
-        ensures totals { (c : List ℕ) → total_at self.new c ≡ total_at self.old c }
+    /// The pairs of a packed list whose value isn't 0, in the same order: one allocation.
+    pub fn nonzeros_of(alloc: Global, pairs: &PackedPairs) -> Result<Pairs, NoMemory>
+        ensures value { IfOk result (λ kept. kept ≡ filter (λ p. not (p.1 == 0)) pairs.now.pairs) }
+        ensures small { IfOk result (λ kept. All (λ p. p.1 < 2 ^ 64) kept) }
     {
-        match &mut self.kept {
-            Kept::Packed(pairs) => pairs.coalesce(),
-            Kept::Mixed(pairs) => coalesce_mixed(pairs),
-        }
+        Ok(Pairs {
+            alloc,
+            kept: Kept::Packed(pairs.nonzeros(alloc)?),
+        })
     }
 
     /// A copy of pairs which all have this order: one allocation where they are packed by it.
@@ -205,60 +200,6 @@ fn unpacked(alloc: Global, pairs: &PackedPairs) -> Result<Vec<(Coords, u64)>, No
         }
     }
     Ok(list)
-}
-
-/// Sorts pairs, adds up neighbours with the same coordinates, and leaves out zeros.
-fn coalesce_mixed(pairs: &mut Vec<(Coords, u64)>)
-    ensures ascending { IsAscending pairs.new.items }
-    ensures nonzero { All (λ p. 0 < p.1) pairs.new.items }
-    ensures totals { (c : List ℕ) → total_at pairs.new.items c ≡ total_at pairs.old.items c }
-{
-    pairs.sort_unstable();
-    gather_list(pairs);
-}
-
-/// Adds up neighbours with the same coordinates, and leaves out zeros.
-fn gather_list(pairs: &mut Vec<(Coords, u64)>)
-    ensures value { pairs.new.items ≡ gathered pairs.old.items }
-{
-    let count = gather_mixed(pairs);
-    pairs.truncate(count);
-}
-
-/// Writes a pair at an index, unless its value is 0, and answers how many pairs are in front then.
-fn put_nonzero(pairs: &mut [(Coords, u64)], kept: usize, pair: (Coords, u64)) -> usize
-    requires within { kept < length pairs.old }
-    ensures front { take result pairs.new ≡ take kept pairs.old ++ with_nonzero pair [] }
-    ensures behind { (k : ℕ) → kept < k → drop k pairs.new ≡ drop k pairs.old }
-    ensures few { result ≤ kept + 1 }
-{
-    if pair.1 == 0 {
-        return kept;
-    }
-    pairs[kept] = pair;
-    kept + 1
-}
-
-/// Adds up neighbours with the same coordinates, in front, and answers how many pairs these are.
-fn gather_mixed(pairs: &mut [(Coords, u64)]) -> usize
-    ensures value { take result pairs.new ≡ gathered pairs.old }
-    ensures within { result ≤ length pairs.new }
-{
-    if pairs.is_empty() {
-        return 0;
-    }
-    let mut last = (pairs[0].0.copy(), pairs[0].1);
-    let mut kept = 0;
-    for i in 1..pairs.len() {
-        let (at, value) = (pairs[i].0.copy(), pairs[i].1);
-        if last.0 == at {
-            last.1 = last.1.wrapping_add(value);
-        } else {
-            kept = put_nonzero(pairs, kept, last);
-            last = (at, value);
-        }
-    }
-    put_nonzero(pairs, kept, last)
 }
 
 impl PartialEq for Pairs {

@@ -14,6 +14,7 @@ pub mod CommitKind
 pub mod OpeningKinds
 pub mod ConditionsLemmas
 pub mod WholeGives
+pub mod OneHistory
 pub mod ClosedTables
 pub mod OpeningsLemmas
 pub mod SittingLemmas

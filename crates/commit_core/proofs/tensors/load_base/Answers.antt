@@ -1,4 +1,4 @@
-use Rattle.std.proofs.Common.{◌≡◌, ◌<◌, length, ap, sym, ◌∙◌, arith, subst, ◌∷◌, [], length-append}
+use Rattle.std.proofs.Common.{◌<◌, length, ap, ◌∙◌, arith, ◌∷◌, [], length-append}
 use Rattle.dt_model.proofs.WorldsLemmas.{as_many_bases}
 use Rattle.commit_core.proofs.LoadedLines.{base_has_order, all_orders-push, base_more}
 use Rattle.commit_core.proofs.tensors.load_base.Goals as goal
