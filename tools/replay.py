@@ -16,7 +16,7 @@ from pathlib import Path
 from replay_answers import answer
 from replay_statements import LineRefused, read_statement
 
-NOT_BUILT = {"schema", "session", "query", "batch"}
+NOT_BUILT = {"schema", "session", "batch"}
 USAGE = b"usage: dyntensor run MANIFEST | check SCHEMAS | sample N\n"
 MODULUS = 2**64
 FILE_LIMIT = 67_108_864

@@ -7,7 +7,7 @@ ghost use Rattle.dt_outside.specs.States.{shelf_state, sure_state};
 ghost use Rattle.dt_outside.specs.MemoryFiles.{find_file, bytes_under, PutsFile};
 
 use crate::memory_files::{MemFile, fill, find, put};
-use crate::shelves::{FetchFault, Shelf};
+use crate::shelves::{FetchFault, Shelf, name_of};
 use arrayvec::ArrayVec;
 use dt_model::{FILE_NAME_LIMIT, NoMemory};
 use std::alloc::Global;
@@ -92,17 +92,6 @@ impl Shelf for MemShelf {
                 Err(FetchFault::Failed)
             }
         }
-    }
-}
-
-/// The bytes of a name.
-pub(crate) fn name_of(name: &str) -> ArrayVec<u8, FILE_NAME_LIMIT>
-    requires in_range { length name.now ≤ FILE_NAME_LIMIT }
-    ensures value { result.items ≡ name.now }
-{
-    match ArrayVec::try_from(name.as_bytes()) {
-        Ok(bytes) => bytes,
-        Err(_) => unreachable!(),
     }
 }
 

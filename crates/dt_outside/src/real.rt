@@ -1,8 +1,7 @@
 //! The files of the system and its standard output.
 ghost use Rattle.std.specs.Prelude.{◌≡◌, [], None};
 
-use crate::memory_shelves::name_of;
-use crate::shelves::{FetchFault, Shelf};
+use crate::shelves::{FetchFault, Shelf, name_of};
 use crate::sinks::{Sink, SinkFailed};
 use arrayvec::ArrayVec;
 use dt_model::FILE_NAME_LIMIT;

@@ -1,8 +1,11 @@
 //! Shelves: where files are read from.
-ghost use Rattle.std.specs.Prelude.{◌≡◌, []};
+ghost use Rattle.std.specs.Prelude.{◌≡◌, ◌≤◌, [], length};
+ghost use Rattle.dt_model.specs.declared.limits.TheConstants.{FILE_NAME_LIMIT};
 ghost use Rattle.dt_model.specs.FileNames.{HasNameLength};
 ghost use Rattle.dt_outside.specs.Faults.{ShelfState, IsFetch};
 
+use arrayvec::ArrayVec;
+use dt_model::FILE_NAME_LIMIT;
 use thiserror::Error;
 
 /// Why a fetch gives no file.
@@ -31,4 +34,15 @@ pub trait Shelf {
         requires fresh { into.old.items ≡ [] }
         requires named { HasNameLength name.now }
         ensures answer { IsFetch (state self.old) (state self.new) name.now limit result into.new.items };
+}
+
+/// The bytes of a name.
+pub(crate) fn name_of(name: &str) -> ArrayVec<u8, FILE_NAME_LIMIT>
+    requires in_range { length name.now ≤ FILE_NAME_LIMIT }
+    ensures value { result.items ≡ name.now }
+{
+    match ArrayVec::try_from(name.as_bytes()) {
+        Ok(bytes) => bytes,
+        Err(_) => unreachable!(),
+    }
 }

@@ -10,7 +10,7 @@ use Rattle.std.proofs.lemmas.List.{append-nil, take_all, drop_all}
 use Rattle.std.proofs.lemmas.Bool.Decides.{nat_tests}
 use Rattle.std.proofs.lemmas.Fmt.{decimal_is_IsNumeral}
 use Rattle.dt_model.specs.declared.limits.TheConstants.{MINUS}
-use Rattle.dt_text.specs.declared.numerals.TheConstants.{PLUS}
+use Rattle.dt_text.specs.declared.values.TheConstants.{PLUS}
 use Rattle.dt_model.specs.Texts.{is_nonempty, value_word}
 use Rattle.dt_model.proofs.Booleans.{both_true}
 use Rattle.dt_model.proofs.NumberWords.{all_ascii_digits-decimal, number_of-decimal}

@@ -7,7 +7,7 @@ use Rattle.std.specs.Str.Parse.{digits_value}
 use Rattle.dt_model.specs.declared.limits.TheConstants.{MINUS}
 use Rattle.dt_model.specs.Texts.{number_of, is_nonempty}
 use Rattle.dt_text.specs.Numerals.{positive_in_range, negative_in_range}
-use Rattle.dt_text.specs.declared.numerals.TheConstants.{PLUS}
+use Rattle.dt_text.specs.declared.values.TheConstants.{PLUS}
 use Rattle.dt_text.specs.declared.values.TheConstants.{POINT, EXPONENT, CAPITAL_EXPONENT, ZERO}
 use Rattle.dt_text.specs.declared.values.Power.{Power}
 use Rattle.dt_text.specs.declared.values.NumFault.{NumFault}

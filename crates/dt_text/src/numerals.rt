@@ -11,9 +11,6 @@ use dt_model::{MINUS, NoMemory};
 use itoa::Buffer;
 use thiserror::Error;
 
-/// The byte that a positive numeral may begin with.
-pub(crate) const PLUS: u8 = b'+';
-
 /// Why a word is no index.
 #[derive(Clone, Copy, Debug, PartialEq, Eq, Error)]
 pub enum IndexFault {
@@ -107,24 +104,12 @@ pub fn read_index(word: &[u8]) -> Result<u32, IndexFault>
     }
 }
 
-/// The value modulo 2^64 of an optional sign and one or more decimal digits, from -2^63 to 2^64 - 1;
-/// `None` for any other word and for a number out of range.
-#[tactic(auto, using(crate::proofs::NumeralsLemmas::positive_in_range_capped, crate::proofs::NumeralsLemmas::negative_in_range_capped))]
+/// The number of one or more decimal digits, without a sign; `None` for any other word and from 2^64 on.
+#[tactic(auto, using(crate::proofs::NumeralsLemmas::positive_in_range_capped))]
 pub fn read_whole(word: &[u8]) -> Option<u64>
     ensures value { result ≡ whole_of word.now }
 {
-    match word {
-        [] => None,
-        [first, rest @ ..] => {
-            if *first == MINUS {
-                negative(digits(rest))
-            } else if *first == PLUS {
-                positive(digits(rest))
-            } else {
-                positive(digits(word))
-            }
-        }
-    }
+    positive(digits(word))
 }
 
 /// The value modulo 2^64 of the negative of a number, where it isn't below -2^63.

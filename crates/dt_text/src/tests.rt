@@ -171,21 +171,16 @@ fn indices_are_digits_below_two_to_the_32(rt: HostRuntime) {
 }
 
 #[test]
-fn whole_numbers_wrap_at_two_to_the_64(rt: HostRuntime) {
+fn a_whole_number_is_digits_below_two_to_the_64(rt: HostRuntime) {
     assert_eq!(rt;
         read_whole(b"18446744073709551615"),
         Some(18_446_744_073_709_551_615)
     );
     assert_eq!(rt; read_whole(b"18446744073709551616"), None);
-    assert_eq!(rt; read_whole(b"-1"), Some(18_446_744_073_709_551_615));
-    assert_eq!(rt;
-        read_whole(b"-9223372036854775808"),
-        Some(9_223_372_036_854_775_808)
-    );
-    assert_eq!(rt; read_whole(b"-9223372036854775809"), None);
-    assert_eq!(rt; read_whole(b"+12"), Some(12));
-    assert_eq!(rt; read_whole(b"-0"), Some(0));
-    assert_eq!(rt; read_whole(b"+"), None);
+    assert_eq!(rt; read_whole(b"0012"), Some(12));
+    assert_eq!(rt; read_whole(b""), None);
+    assert_eq!(rt; read_whole(b"-1"), None);
+    assert_eq!(rt; read_whole(b"+12"), None);
     assert_eq!(rt; read_whole(b"1.0"), None);
 }
 

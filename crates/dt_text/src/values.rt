@@ -6,9 +6,13 @@ ghost use Rattle.std.specs.List.{list_all, prefix_len};
 ghost use Rattle.std.specs.Str.Parse.{digits_value};
 ghost use Rattle.dt_text.specs.Values.{value_of, value_with, strip_sign, is_negative, leading_digits, after_digits, fraction_digits, after_fraction, power, signed_power, power_of, power_size, scaled, in_range, is_zero};
 
-use crate::numerals::{CAP, PLUS, digits, negative, positive};
+use crate::lexer::digit_run;
+use crate::numerals::{CAP, digits, negative, positive};
 use dt_model::MINUS;
 use thiserror::Error;
+
+/// The byte that a positive numeral may begin with.
+pub(crate) const PLUS: u8 = b'+';
 
 /// The byte between the whole digits of a value and the others.
 const POINT: u8 = b'.';
@@ -103,26 +107,13 @@ fn strip_sign(word: &[u8]) -> &[u8]
     }
 }
 
-/// How many digits a word begins with.
-fn digit_count(word: &[u8]) -> usize
-    ensures value { result ≡ prefix_len is_ascii_digit word.now }
-    ensures within { result ≤ length word.now }
-{
-    for (i, byte) in word.iter().enumerate() {
-        if !byte.is_ascii_digit() {
-            return i;
-        }
-    }
-    word.len()
-}
-
 /// The digits that a word begins with, and what is behind them.
 fn split_digits(word: &[u8]) -> (&[u8], &[u8])
     ensures front { result.0.now ≡ leading_digits word.now }
     ensures digits { list_all is_ascii_digit result.0.now ≡ true }
     ensures behind { result.1.now ≡ after_digits word.now }
 {
-    let count = digit_count(word);
+    let count = digit_run(word);
     (&word[..count], &word[count..])
 }
 

@@ -18,7 +18,7 @@ use Rattle.dt_model.proofs.Booleans.{both_true}
 use Rattle.script_read.specs.declared.declarations.Declared.{Declared}
 use Rattle.script_read.specs.declared.items.Item.TheVariants.{Tensor, Session, Print}
 use Rattle.script_read.specs.Manifests.{declared_with, is_declared, is_within_limits}
-use Rattle.script_read.specs.Sound.{IsSoundItem, IsSoundScript, AsksNoQuery}
+use Rattle.script_read.specs.Sound.{IsSoundItem, IsSoundScript}
 use Rattle.dyntensor.specs.Workload.{Gathered, nothing, decls_of, work_of, lines_in, updates_of, lines_left, with_tensor, with_lines, with_script, with_print}
 use Rattle.dyntensor.specs.Gathering.{IsRunnable, IsGatheredFrom}
 use Rattle.dyntensor.proofs.DeclaredLemmas.{decls_with, tensor_with, AreValid, AreValid-from, AreValid-push, decls_are_valid-from, dims_of-push, tensor_number-declared}
@@ -75,7 +75,6 @@ IsGatheredFrom-nothing = record {
   runnable = record {
     valid = record { decls = refl; sessions = refl; calls = refl; sizes = refl; tensors = refl; loads = refl; accepted = refl };
     single = omega arith;
-    no_query = λ k e l. absurd (omega (arith, l));
     are_declared = λ k e l. absurd (omega (arith, l));
   };
 }
@@ -131,7 +130,6 @@ IsGatheredFrom-tensor d g name dims formats latches h s =
           accepted = subst (λ ss. list_all (list_all (verdict_is_valid (decls_with (g.tensors ++ x ∷ [])))) ss ≡ true) (sym none) refl;
         };
         single = h.runnable.single;
-        no_query = h.runnable.no_query;
         are_declared = λ k e l. let p = h.runnable.are_declared k e l in omega arith;
       };
     }
@@ -165,7 +163,6 @@ IsGatheredFrom-lines d g t lines h l few inside =
           accepted = v.accepted;
         };
         single = h.runnable.single;
-        no_query = h.runnable.no_query;
         are_declared = h.runnable.are_declared;
       };
     }
@@ -203,7 +200,6 @@ IsGatheredFrom-script d g file bytes script h s sound =
           accepted = subst (λ ss. list_all (list_all (verdict_is_valid (decls_of g))) ss ≡ true) (sym one) (rw (sound.valid) refl);
         };
         single = omega arith;
-        no_query = subst (All (All AsksNoQuery)) (sym one) (All-push (All AsksNoQuery) [] script (λ k e l. absurd (omega (arith, l))) sound.no_query);
         are_declared = h.runnable.are_declared;
       };
     }
@@ -225,7 +221,6 @@ IsGatheredFrom-print d g name h e = record {
   runnable = record {
     valid = h.runnable.valid;
     single = h.runnable.single;
-    no_query = h.runnable.no_query;
     are_declared = All-push (λ t. t < length g.tensors) g.printed (tensor_number (decls_of g) name) h.runnable.are_declared (number_is_declared d g name h e);
   };
 }

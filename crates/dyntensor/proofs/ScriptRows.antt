@@ -5,7 +5,6 @@ use Rattle.std.proofs.lemmas.Grind.{common_steps}
 use Rattle.std.proofs.lemmas.Bool.Decides.{nat_tests}
 use Rattle.std.proofs.lemmas.List.{take_more}
 use Rattle.dt_model.specs.declared.calls.Call.{Call}
-use Rattle.dt_model.specs.declared.calls.Call.TheVariants.{Get, Batch, Query}
 use Rattle.dt_model.specs.declared.replies.Refusal.{Refusal}
 use Rattle.dt_model.specs.declared.replies.Reply.{Reply}
 use Rattle.dt_model.specs.declared.replies.Verdict.{Verdict}
@@ -17,11 +16,8 @@ use Rattle.dt_model.specs.Report.{lines_rows, line_rows, call_rows}
 use Rattle.dt_model.proofs.ReportLemmas.{lines_rows-same, lines_rows-push}
 use Rattle.dt_model.proofs.TextsLemmas.{text_of-append}
 use Rattle.dt_model.proofs.Booleans.{list_all-at}
-use Rattle.commit_core.specs.Orders.{orders_of, IsCallOf}
-use Rattle.commit_core.proofs.OrdersLemmas.{IsCallOf-valid}
-use Rattle.sessions.specs.RunState.{RunState, IsNoQuery}
-use Rattle.script_read.specs.Sound.{AsksNoQuery}
-use Rattle.dyntensor.specs.ScriptRun.{StepsTo, IsSoFar, IsRun, MayRun, IsOneSession}
+use Rattle.sessions.specs.RunState.{RunState}
+use Rattle.dyntensor.specs.ScriptRun.{StepsTo, IsSoFar, IsRun, IsOneSession}
 use Rattle.dyntensor.proofs.SessionCalls.{valid_script}
 use Rattle.dt_model.specs.Worlds.{verdict_is_valid}
 use Rattle.dyntensor.proofs.ScriptRunLemmas.{so_far-none, so_far-some, so_far-refused, replies_kept, reply_made, reply_missing}
@@ -86,7 +82,7 @@ pub record OneMore (w : World) (script : List Verdict) (i : ℕ) (new : RunState
 
 -- an accepted line more
 pub one_more : (w : World) (script : List Verdict) (i : ℕ) (old new : RunState) (call : Call) (o : Option Reply) (before t u : List ℕ)
-    → IsOneSession w script → IsSoFar w i old → i < length script → get_or script i (Accepted call) ≡ Accepted call → StepsTo old new (i + 1) call o
+    → IsOneSession w script → IsSoFar w i old → i < length script → get_or script i (Accepted call) ≡ Accepted call → StepsTo w.decls old new (i + 1) call o
     → t ≡ before ++ text_of (lines_rows (reply_of_turn w old.entries 1) 1 (take i script)) → u ≡ t ++ text_of (call_rows (i + 1) o)
     → OneMore w script i new before u
 one_more w script i old new call None before t u one h l e s a b =
@@ -116,26 +112,15 @@ one_more-refused w script i run r before t u one h l e a b = record {
 
 -- one line more, accepted or refused
 pub one_line_more : (w : World) (script : List Verdict) (i : ℕ) (old new : RunState) (v : Verdict) (before t u : List ℕ)
-    → IsOneSession w script → IsSoFar w i old → i < length script → get_or script i v ≡ v → IsRun old new (i + 1) v t u
+    → IsOneSession w script → IsSoFar w i old → i < length script → get_or script i v ≡ v → IsRun w.decls old new (i + 1) v t u
     → t ≡ before ++ text_of (lines_rows (reply_of_turn w old.entries 1) 1 (take i script))
     → OneMore w script i new before u
 one_line_more w script i old new (Accepted call) before t u one h l e run a = one_more w script i old new call run.0 before t u one h l e run.1 a run.2
 one_line_more w script i old new (Refused r) before t u one h l e run a =
     subst (λ x. OneMore w script i x before u) (sym run.0) (one_more-refused w script i old r before t u one h l e a run.1)
 
-no_query : (call : Call) → AsksNoQuery (Accepted call) → IsNoQuery call
-no_query (Get cell) h = tt
-no_query (Batch updates) h = tt
-no_query (Query stmt) h = h
-
--- a line of a valid session may be run
-pub may_run : (w : World) (script : List Verdict) (orders : List ℕ) (i : ℕ) (v : Verdict) → IsOneSession w script → orders ≡ orders_of w.decls
-    → i < length script
-    → get_or script i v ≡ v → MayRun orders v
-may_run w script orders i (Accepted call) one same l e = (
-  no_query call (subst AsksNoQuery e (one.no_query i (Accepted call) l)),
-  subst (λ os. IsCallOf os call) (sym same)
-      (IsCallOf-valid w.decls call (subst (λ v. verdict_is_valid w.decls v ≡ true) e
-      (list_all-at (verdict_is_valid w.decls) script i (Accepted call) l (valid_script w script one)))),
-)
-may_run w script orders i (Refused r) one same l e = tt
+-- the verdict on a line of a valid session is valid
+pub valid_line : (w : World) (script : List Verdict) (i : ℕ) (v : Verdict) → IsOneSession w script → i < length script → get_or script i v ≡ v
+    → verdict_is_valid w.decls v ≡ true
+valid_line w script i v one l e =
+    subst (λ x. verdict_is_valid w.decls x ≡ true) e (list_all-at (verdict_is_valid w.decls) script i v l (valid_script w script one))

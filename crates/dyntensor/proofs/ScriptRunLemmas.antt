@@ -69,9 +69,9 @@ rises_at w i call es k d h l same = (h k d l).high
 
 -- a line whose call was made
 pub so_far-some : (w : World) (i : ℕ) (old new : RunState) (call : Call) (r : Reply) → IsSoFar w i old → call_of w 1 (i + 1) ≡ Some call
-    → Makes old new (i + 1) call r → IsSoFar w (i + 1) new
+    → Makes w.decls old new (i + 1) call r → IsSoFar w (i + 1) new
 so_far-some w i old new call r h is m = record {
-  now = m.run w h.now;
+  now = m.run w refl h.now;
   entries = subst (All (IsEntryOf w (i + 1 + 1))) (sym m.entries)
       (All-push (IsEntryOf w (i + 1 + 1)) old.entries (entry_at (i + 1) call) (later w i old.entries h.entries)
       (record { session = refl; low = omega arith; high = omega arith; called = is }));
@@ -98,19 +98,19 @@ so_far-refused w i run h is = record {
 }
 
 -- earlier lines keep their replies
-pub replies_kept : (w : World) (i : ℕ) (old new : RunState) (call : Call) (r : Reply) → Makes old new (i + 1) call r → (k : ℕ) → k < i + 1
+pub replies_kept : (w : World) (i : ℕ) (old new : RunState) (call : Call) (r : Reply) → Makes w.decls old new (i + 1) call r → (k : ℕ) → k < i + 1
     → reply_of_turn w new.entries 1 k ≡ reply_of_turn w old.entries 1 k
 replies_kept w i old new call r m k l =
     ap (λ es. reply_of_turn w es 1 k) m.entries ∙ reply_of_turn_from-other w.decls (base_of w) old.entries (entry_at (i + 1) call) 1 k
     (other_turn (i + 1) k call l)
 
 -- the line's reply
-pub reply_made : (w : World) (i : ℕ) (old new : RunState) (call : Call) (r : Reply) → IsSoFar w i old → Makes old new (i + 1) call r
+pub reply_made : (w : World) (i : ℕ) (old new : RunState) (call : Call) (r : Reply) → IsSoFar w i old → Makes w.decls old new (i + 1) call r
     → reply_of_turn w new.entries 1 (i + 1) ≡ Some r
 reply_made w i old new call r h m =
     ap (λ es. reply_of_turn w es 1 (i + 1)) m.entries
     ∙ reply_of_turn_from-own w.decls (base_of w) old.entries (entry_at (i + 1) call) 1 (i + 1) (no_turn_yet w i old h) (own_turn (i + 1) call)
-    ∙ ap Some (m.value w h.now)
+    ∙ ap Some (m.value w refl h.now)
 
 -- a line without a reply
 pub reply_missing : (w : World) (i : ℕ) (run : RunState) → IsSoFar w i run → reply_of_turn w run.entries 1 (i + 1) ≡ None

@@ -14,7 +14,6 @@ use Rattle.dt_model.specs.Verdicts.{call_is_valid}
 use Rattle.dt_model.specs.Worlds.{verdict_is_valid}
 use Rattle.dt_model.proofs.Booleans.{first_true, last_true}
 use Rattle.dt_model.specs.declared.limits.TheConstants.{MOST_CALLS}
-use Rattle.script_read.specs.Sound.{AsksNoQuery}
 use Rattle.dyntensor.specs.Gathering.{IsRunnable}
 use Rattle.dyntensor.specs.ScriptRun.{IsOneSession}
 
@@ -67,7 +66,6 @@ pub IsOneSession-first : (w : World) (printed : List ℕ) (script : List Verdict
 IsOneSession-first w printed script can one = record {
   valid = can.valid;
   scripts = one;
-  no_query = (subst (All (All AsksNoQuery)) one can.no_query) 0 [] (omega arith);
 }
 
 -- there is room for the calls of the one script

@@ -5,14 +5,13 @@ use Rattle.dt_model.specs.Tensors.{total_latches}
 use Rattle.dt_model.specs.Worlds.{IsValid}
 use Rattle.script_read.specs.declared.declarations.Declared.{Declared}
 use Rattle.script_read.specs.declared.items.Item.{Item}
-use Rattle.script_read.specs.Sound.{IsSoundItem, AsksNoQuery}
+use Rattle.script_read.specs.Sound.{IsSoundItem}
 use Rattle.dyntensor.specs.Workload.{Gathered, work_of}
 
--- a valid world of one session at most, without queries, and tensors of it to print
+-- a valid world of one session at most, and tensors of it to print
 pub record IsRunnable (w : World) (printed : List ℕ) : Type 0 where
   pub valid : IsValid w
   pub single : length w.scripts ≤ 1
-  pub no_query : All (All AsksNoQuery) w.scripts
   pub are_declared : All (λ t. t < length w.decls.tensors) printed
 
 -- it was gathered from items that declare this

@@ -4,6 +4,7 @@ use Rattle.dt_model.specs.declared.calls.Call.{Call}
 use Rattle.dt_model.specs.declared.calls.Call.TheVariants.{Get}
 use Rattle.dt_model.specs.declared.calls.Cell.{Cell}
 use Rattle.dt_model.specs.declared.calls.Entry.{Entry}
+use Rattle.dt_model.specs.declared.declared_tensors.Decls.{Decls}
 use Rattle.dt_model.specs.declared.replies.Reply.{Reply}
 use Rattle.dt_model.specs.declared.replies.Verdict.{Verdict}
 use Rattle.dt_model.specs.declared.replies.Verdict.TheVariants.{Accepted, Refused}
@@ -13,24 +14,22 @@ use Rattle.dt_model.specs.Texts.{text_of}
 use Rattle.dt_model.specs.Calls.{IsNoGet}
 use Rattle.dt_model.specs.Runs.{contents_after, call_of, reply_to, has_turn, IsInScriptOrder, IsOrder, AllGets}
 use Rattle.dt_model.specs.Worlds.{IsValid}
-use Rattle.commit_core.specs.Orders.{IsCallOf}
-use Rattle.sessions.specs.RunState.{RunState, IsRunOf, IsNoQuery}
-use Rattle.script_read.specs.Sound.{AsksNoQuery}
+use Rattle.sessions.specs.RunState.{RunState, IsRunOf}
 
 -- the entry of line n of session 1
 abbrev pub entry_at : ℕ → Call → Entry
 entry_at n call = record { turn = record { session = 1; number = n }; call = call }
 
--- the call was made, and its reply is r
-pub record Makes (old new : RunState) (n : ℕ) (call : Call) (r : Reply) : Type 0 where
+-- the call was made in a world with these declarations, and its reply is r
+pub record Makes (d : Decls) (old new : RunState) (n : ℕ) (call : Call) (r : Reply) : Type 0 where
   pub entries : new.entries ≡ old.entries ++ entry_at n call ∷ []
   pub last : new.last ≡ n
-  pub value : (w : World) → IsRunOf w old → reply_to w.decls (contents_after w old.entries) call ≡ r
-  pub run : (w : World) → IsRunOf w old → IsRunOf w new
+  pub value : (w : World) → w.decls ≡ d → IsRunOf w old → reply_to w.decls (contents_after w old.entries) call ≡ r
+  pub run : (w : World) → w.decls ≡ d → IsRunOf w old → IsRunOf w new
 
 -- a call that was made, or was out of memory
-abbrev pub StepsTo : RunState → RunState → ℕ → Call → Option Reply → Type 0
-StepsTo old new n call o = MatchOption o ((new ≡ old) × IsNoGet call) (Makes old new n call)
+abbrev pub StepsTo : Decls → RunState → RunState → ℕ → Call → Option Reply → Type 0
+StepsTo d old new n call o = MatchOption o ((new ≡ old) × IsNoGet call) (Makes d old new n call)
 
 -- an entry of this world's one session, before line n
 pub record IsEntryOf (w : World) (n : ℕ) (e : Entry) : Type 0 where
@@ -47,21 +46,15 @@ pub record IsSoFar (w : World) (i : ℕ) (run : RunState) : Type 0 where
   pub last : run.last ≤ i
   pub gets : (k : ℕ) (cell : Cell) → k ≤ i → call_of w 1 k ≡ Some (Get cell) → has_turn run.entries 1 k ≡ true
 
--- a line that may be run over tensors of these orders: a refused one, or a call of these tensors that is no query
-abbrev pub MayRun : List ℕ → Verdict → Type 0
-MayRun orders (Accepted call) = IsNoQuery call × IsCallOf orders call
-MayRun orders (Refused r) = Unit {0}
-
 -- line n was run, and its row was appended
-abbrev pub IsRun : RunState → RunState → ℕ → Verdict → List ℕ → List ℕ → Type 0
-IsRun old new n (Accepted call) before after = (o : Option Reply) × StepsTo old new n call o × (after ≡ before ++ text_of (call_rows n o))
-IsRun old new n (Refused r) before after = (new ≡ old) × (after ≡ before ++ text_of (line_rows n (Refused r) None))
+abbrev pub IsRun : Decls → RunState → RunState → ℕ → Verdict → List ℕ → List ℕ → Type 0
+IsRun d old new n (Accepted call) before after = (o : Option Reply) × StepsTo d old new n call o × (after ≡ before ++ text_of (call_rows n o))
+IsRun d old new n (Refused r) before after = (new ≡ old) × (after ≡ before ++ text_of (line_rows n (Refused r) None))
 
--- a world of one session, without queries
+-- a valid world of one session
 pub record IsOneSession (w : World) (script : List Verdict) : Type 0 where
   pub valid : IsValid w
   pub scripts : w.scripts ≡ script ∷ []
-  pub no_query : All AsksNoQuery script
 
 -- all lines are done
 pub record IsFinished (w : World) (run : RunState) : Type 0 where

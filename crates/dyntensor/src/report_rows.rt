@@ -4,7 +4,6 @@ ghost use Rattle.std.specs.Fmt.{decimal};
 ghost use Rattle.std.specs.List.{join_with_byte};
 ghost use Rattle.dt_model.specs.Texts.{text_of};
 ghost use Rattle.dt_model.specs.Report.{call_rows, history_rows, pair_row, turn_row, refusal_words};
-ghost use Rattle.sessions.specs.RunState.{IsPlain};
 
 use dt_model::{Entry, Name, NoMemory, Nonzeros, Refusal, Reply};
 use dt_text::{append, write_number, write_value};
@@ -19,9 +18,17 @@ pub fn write_session(number: u32, text: &mut Vec<u8>) -> Result<(), NoMemory>
     append(text, b"\n")
 }
 
-/// Appends the row of a call's reply, or of a call that found no memory.
+/// Appends the rest of the row of a query's reply, and the row of each nonzero.
+fn write_result(pairs: &Nonzeros, text: &mut Vec<u8>) -> Result<(), NoMemory>
+    ensures ok { OnOk result (text.new.items ≡ text.old.items ++ (codes " result " ++ decimal (length pairs.now) ++ 10 ∷ []) ++ text_of (map pair_row pairs.now)) }
+{
+    write_counted(" result ", pairs.len(), text)?;
+    append(text, b"\n")?;
+    write_tns(pairs, text)
+}
+
+/// Appends the rows of a call's reply, or of a call that found no memory.
 pub fn write_reply(number: u32, reply: &Option<Reply>, text: &mut Vec<u8>) -> Result<(), NoMemory>
-    requires plain { IsPlain reply.now }
     ensures ok { OnOk result (text.new.items ≡ text.old.items ++ text_of (call_rows number reply.now)) }
 {
     write_number(number, text)?;
@@ -33,7 +40,7 @@ pub fn write_reply(number: u32, reply: &Option<Reply>, text: &mut Vec<u8>) -> Re
             write_value(*value, text)?;
             append(text, b"\n")
         }
-        Some(Reply::Result(_)) => unreachable!(),
+        Some(Reply::Result(pairs)) => write_result(pairs, text),
     }
 }
 

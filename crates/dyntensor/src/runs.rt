@@ -1,34 +1,41 @@
 //! Runs the calls of a world on one thread, and writes the report.
-ghost use Rattle.std.specs.Prelude.{◌≡◌, ◌<◌, ◌≤◌, ◌++◌, [], OnOk, IfOk, All, length};
+ghost use Rattle.std.specs.Prelude.{◌≡◌, ◌<◌, ◌≤◌, ◌++◌, [], true, OnOk, IfOk, All, length};
 ghost use Rattle.std.specs.List.{flat_map, enumerate_from};
 ghost use Rattle.dt_model.specs.declared.limits.TheConstants.{MOST_CALLS};
 ghost use Rattle.dt_model.specs.Texts.{text_of};
 ghost use Rattle.dt_model.specs.Runs.{reply_of_turn};
 ghost use Rattle.dt_model.specs.Report.{lines_rows, session_rows, tensor_rows, PrintsRun};
-ghost use Rattle.commit_core.specs.Orders.{IsCallOf};
-ghost use Rattle.sessions.specs.RunState.{IsNoQuery, IsPlain, IsRunOf};
+ghost use Rattle.dt_model.specs.Verdicts.{call_is_valid};
+ghost use Rattle.dt_model.specs.Worlds.{decls_are_valid, verdict_is_valid};
+ghost use Rattle.commit_core.specs.Orders.{orders_of};
+ghost use Rattle.sessions.specs.RunState.{IsRunOf};
 ghost use Rattle.dyntensor.specs.Gathering.{IsRunnable};
-ghost use Rattle.dyntensor.specs.ScriptRun.{StepsTo, IsSoFar, MayRun, IsRun, IsOneSession, IsFinished};
+ghost use Rattle.dyntensor.specs.ScriptRun.{StepsTo, IsSoFar, IsRun, IsOneSession, IsFinished};
 
 use crate::report_rows::{write_history, write_refusal, write_reply, write_session, write_tensor};
-use dt_model::{Call, NoMemory, Reply, Scripts, Turn, Verdict, World};
+use dt_model::{Call, Decls, NoMemory, Reply, Scripts, Turn, Verdict, World};
 use sessions::Plain;
 use std::alloc::Global;
 
 /// Makes a call, or finds no memory.
-fn make_call(alloc: Global, plain: &mut Plain, number: u32, call: &Call) -> Option<Reply>
-    requires no_query { IsNoQuery call.now }
-    requires cells { IsCallOf plain.old.orders call.now }
+fn make_call(
+    alloc: Global,
+    decls: &Decls,
+    plain: &mut Plain,
+    number: u32,
+    call: &Call,
+) -> Option<Reply>
+    requires decls { decls_are_valid decls.now ≡ true }
+    requires declared { plain.old.orders ≡ orders_of decls.now }
+    requires valid { call_is_valid decls.now call.now ≡ true }
     requires above { plain.old.last < number }
     requires below { number ≤ plain.old.calls }
-    ensures step { StepsTo plain.old plain.new number call.now result }
+    ensures step { StepsTo decls.now plain.old plain.new number call.now result }
     ensures calls { plain.new.calls ≡ plain.old.calls }
-    ensures orders { plain.new.orders ≡ plain.old.orders }
-    ensures plain { IsPlain result }
 {
     let turn = Turn { session: 1, number };
     match call.copy(alloc) {
-        Ok(copy) => match plain.call(turn, copy) {
+        Ok(copy) => match plain.call(decls, turn, copy) {
             Ok(reply) => Some(reply),
             Err(_) => None,
         },
@@ -39,20 +46,23 @@ fn make_call(alloc: Global, plain: &mut Plain, number: u32, call: &Call) -> Opti
 /// Runs a line of the script, and appends its row.
 fn run_line(
     alloc: Global,
+    decls: &Decls,
     plain: &mut Plain,
     number: u32,
     verdict: &Verdict,
     text: &mut Vec<u8>,
 ) -> Result<(), NoMemory>
-    requires may_run { MayRun plain.old.orders verdict.now }
+    requires decls { decls_are_valid decls.now ≡ true }
+    requires declared { plain.old.orders ≡ orders_of decls.now }
+    requires valid { verdict_is_valid decls.now verdict.now ≡ true }
     requires above { plain.old.last < number }
     requires below { number ≤ plain.old.calls }
-    ensures run { OnOk result (IsRun plain.old plain.new number verdict.now text.old.items text.new.items) }
+    ensures run { OnOk result (IsRun decls.now plain.old plain.new number verdict.now text.old.items text.new.items) }
     ensures calls { plain.new.calls ≡ plain.old.calls }
 {
     match verdict {
         Verdict::Accepted(call) => {
-            let reply = make_call(alloc, plain, number, call);
+            let reply = make_call(alloc, decls, plain, number, call);
             write_reply(number, &reply, text)
         }
         Verdict::Refused(refusal) => write_refusal(number, refusal, text),
@@ -73,11 +83,9 @@ fn run_script(
     ensures done { OnOk result (IsSoFar world.now (length script.now) plain.new) }
     ensures rows { OnOk result (text.new.items ≡ text.old.items ++ text_of (lines_rows (reply_of_turn world.now plain.new.entries 1) 1 script.now)) }
 {
-    // The clauses speak of the world; the code reads the script alone.
-    let _ = world;
     for (i, verdict) in script.iter().enumerate() {
         let number = i as u32 + 1;
-        run_line(alloc, plain, number, verdict, text)?;
+        run_line(alloc, &world.decls, plain, number, verdict, text)?;
     }
     Ok(())
 }

@@ -130,12 +130,103 @@ fn data_is_loaded_and_printed(rt: HostRuntime) -> Result<(), Fail> {
     Ok(())
 }
 
+/// The report of a script over `v` and some small matrices and vectors.
+fn run_over_matrices(alloc: Global, script: &[u8]) -> Result<(u8, Vec<u8>), Fail> {
+    let manifest =
+        b"tensor v 5 as flat latches 1\ntensor A 2 2 as flat flat latches 1\ntensor B 2 2 as flat flat latches 1\ntensor C 2 2 as flat flat latches 2\ntensor b 2 as flat latches 1\ntensor x 2 as flat latches 2\ntensor z 2 as flat latches 1\nload A A.tns\nload B B.tns\nload C C.tns\nload x x.tns\nload z z.tns\nsession s\n".as_slice();
+    let files = [
+        ("m", manifest),
+        ("A.tns", b"1 1 1\n1 2 1\n"),
+        ("B.tns", b"1 1 1\n1 2 2\n2 2 3\n"),
+        ("C.tns", b"1 1 4\n2 1 5\n2 2 6\n"),
+        ("x.tns", b"1 2\n2 3\n"),
+        ("z.tns", b"1 10\n2 20\n"),
+        ("s", script),
+    ];
+    run(alloc, &files)
+}
+
+#[test]
+fn queries_print_their_answers(rt: HostRuntime) -> Result<(), Fail> {
+    let rows: [(&[u8], &[u8]); 12] = [
+        (
+            b"add v 3 7\nadd v 3 -7\nquery a(i) = v(i)\n",
+            b"session 1\n1 ok\n2 ok\n3 result 0\nhistory 3\n1 1\n1 2\n1 3\n",
+        ),
+        (
+            b"query A(i,j) = B(i,k)*C(k,j)\n",
+            b"session 1\n1 result 4\n1 1 14\n1 2 12\n2 1 15\n2 2 18\nhistory 1\n1 1\n",
+        ),
+        (
+            b"query y(i) = A(i,j)*x(j) + z(i)\n",
+            b"session 1\n1 result 2\n1 15\n2 20\nhistory 1\n1 1\n",
+        ),
+        (
+            b"query A(i,j) = B(i,j) + C(j,i)\n",
+            b"session 1\n1 result 3\n1 1 5\n1 2 7\n2 2 9\nhistory 1\n1 1\n",
+        ),
+        (
+            b"query a(i,j) = b(i) + C(i,j)\n",
+            b"session 1\n1 refused uncovered 1 j\nhistory 0\n",
+        ),
+        (
+            b"query a = 3\n",
+            b"session 1\n1 refused access 1\nhistory 0\n",
+        ),
+        (
+            b"query A(i,j) = B(i,k\n",
+            b"session 1\n1 refused form 21\nhistory 0\n",
+        ),
+        (
+            b"query a(i) = C(i,i)\n",
+            b"session 1\n1 refused repeated i\nhistory 0\n",
+        ),
+        // a number alone, one that wraps, and one of a term that cancels another
+        (
+            b"query a = x(i)*x(i)\nquery a = -x(i)*z(i)\nquery a = x(i) - x(j)\n",
+            b"session 1\n1 result 1\n13\n2 result 1\n-80\n3 result 0\nhistory 3\n1 1\n1 2\n1 3\n",
+        ),
+        // the updates before a query and none behind it
+        (
+            b"query q(i) = v(i)*2\nset v 5 9223372036854775807\nquery q(i) = v(i)*2\nset v 1 1\n",
+            b"session 1\n1 result 0\n2 ok\n3 result 1\n5 -2\n4 ok\nhistory 4\n1 1\n1 2\n1 3\n1 4\n",
+        ),
+        (
+            b"query a(j,i) = B(i,j)*(z(i) - z(i)*(x(j) - 2*x(j)))\n",
+            b"session 1\n1 result 3\n1 1 30\n2 1 80\n2 2 240\nhistory 1\n1 1\n",
+        ),
+        (
+            b"query a(i,j) = w(i,j)\nquery a = 1*v(i)*18446744073709551616\nget v 1\n",
+            b"session 1\n1 refused name w\n2 refused limit 18\n3 value 0\nhistory 1\n1 3\n",
+        ),
+    ];
+    for (script, report) in rows {
+        let (status, text) = run_over_matrices(rt.alloc(), script)?;
+        assert_eq!(rt; text.as_slice(), report);
+        assert_eq!(rt; status, 0);
+    }
+    Ok(())
+}
+
+#[test]
+fn a_query_of_unequal_dimensions_is_refused(rt: HostRuntime) -> Result<(), Fail> {
+    let manifest =
+        b"tensor B 2 3 as flat flat latches 1\ntensor v 5 as flat latches 1\nsession s\n".as_slice();
+    let script = b"query a(i) = B(i,j)*v(j)\nquery a = v(i,j)\n".as_slice();
+    let (status, text) = run(rt.alloc(), &[("m", manifest), ("s", script)])?;
+    let report =
+        b"session 1\n1 refused dimension j 3 5\n2 refused rank v 2 1\nhistory 0\n".as_slice();
+    assert_eq!(rt; text.as_slice(), report);
+    assert_eq!(rt; status, 0);
+    Ok(())
+}
+
 /// The files that the manifests of the next tests name.
 const FILES: [(&str, &[u8]); 5] = [
     ("a", b"2 1 1 1 2 -1\n1 2 1 1 1 2\n"),
     ("b", b"5 9\n1 8\n"),
     ("s", SCRIPT),
-    ("q", b"get v 1\nquery a = v(i)\n"),
+    ("q", b"get v 1\nbatch set v 1 1\n"),
     ("r", b"batch set v 1 1\n"),
 ];
 

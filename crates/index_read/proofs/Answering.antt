@@ -12,7 +12,7 @@ use Rattle.index_read.specs.Faults.{first_fault, AnswersFault}
 use Rattle.index_read.specs.Grammar.{Begins}
 use Rattle.index_read.specs.Readings.{tokens_in, IsFormFaultAt, IsFormFaultAtEnd, DescribesFault, IsWritten}
 use Rattle.index_read.specs.Building.{stmt_of, read_of}
-use Rattle.index_read.specs.Meaning.{StmtText, Reads, AnswersStmt}
+use Rattle.index_read.specs.Meaning.{StmtText, Reads, AnswersStmt, statement_in, AnswersReading}
 use Rattle.index_read.proofs.Telling.{first_fault_told}
 use Rattle.index_read.proofs.Built.{stmt_text, one_reading, stmt_counts}
 use Rattle.index_read.proofs.Smallness.{meaning_appears}
@@ -51,7 +51,7 @@ answer_gives text (Err (Limit c)) f stmt w = tt
 answer_gives text (Err NoMemory) f stmt w = tt
 
 -- what is read is small
-small_stmt : (text : List ℕ) → first_fault text ≡ None → (s : Stmt) → s ≡ stmt_of (read_of text) → StmtText text s → is_small s ≡ true
+pub small_stmt : (text : List ℕ) → first_fault text ≡ None → (s : Stmt) → s ≡ stmt_of (read_of text) → StmtText text s → is_small s ≡ true
 small_stmt text none s is w =
     let few = stmt_counts text none s w in
     let vars : length s.vars.items ≤ 8 = subst (λ x. length x.vars.items ≤ 8) (sym is) few.2 in
@@ -66,3 +66,11 @@ pub answer_small : (text : List ℕ) (r : Result Stmt StmtFault) → AnswersFaul
     → IfOk r (λ s. is_small s ≡ true)
 answer_small text (Ok s) f v w = small_stmt text f s v w
 answer_small text (Err e) f v w = tt
+
+-- an answer is the statement in the text, or its first fault
+pub answer_value : (text : List ℕ) (r : Result Stmt StmtFault) → AnswersFault r (first_fault text) → IfOk r (λ s. s ≡ stmt_of (read_of text))
+    → AnswersReading (statement_in text) r
+answer_value text (Ok s) f v = rw f (ap Ok (sym v))
+answer_value text (Err (Form c)) f v = rw f refl
+answer_value text (Err (Limit c)) f v = rw f refl
+answer_value text (Err NoMemory) f v = tt

@@ -1,6 +1,6 @@
 -- The text of trees has their tokens.
 use Rattle.std.proofs.Common.{◌≡◌, ℕ, ◌+◌, ◌<◌, ◌^◌, ◌++◌, Bool, true, false, cond, List, [], ◌∷◌, length, refl, ap, sym, ◌∙◌, arith, Some}
-use Rattle.std.specs.Prelude.{⊤, ◌&&◌, ◌==◌, nat_lt}
+use Rattle.std.specs.Prelude.{⊤, ◌&&◌, nat_lt}
 use Rattle.std.specs.Fmt.{decimal}
 use Rattle.std.specs.Str.{all_ascii_digits}
 use Rattle.std.specs.List.{prefix_len, list_all}
@@ -10,7 +10,7 @@ use Rattle.std.proofs.lemmas.List.{append_assoc}
 use Rattle.std.proofs.lemmas.Fmt.{decimal_is_IsNumeral}
 use Rattle.dt_model.specs.Texts.{is_blank, number_of}
 use Rattle.dt_model.proofs.NumberWords.{all_ascii_digits-decimal, number_of-decimal}
-use Rattle.dt_text.specs.Numerals.{positive_in_range, negative_in_range, whole_of}
+use Rattle.dt_text.specs.Numerals.{positive_in_range, whole_of}
 use Rattle.dt_model.specs.Names.{is_name, is_name_start, is_name_byte}
 use Rattle.dt_model.proofs.Booleans.{both_true}
 use Rattle.index_read.specs.declared.lexer.Token.TheVariants as a
@@ -58,12 +58,6 @@ digits_all (d ∷ ds) h =
     let both = both_true (is_ascii_digit d) (all_ascii_digits ds) h in
     rw (both.0, digits_all ds both.1) refl
 
-not_minus : (d : ℕ) → is_ascii_digit d ≡ true → (d == 45) ≡ false
-not_minus d h = grind (arith, nat_tests)
-
-not_plus : (d : ℕ) → is_ascii_digit d ≡ true → (d == 43) ≡ false
-not_plus d h = grind (arith, nat_tests)
-
 -- digits before what stops them
 digits_lexed : (ds rest : List ℕ) → 0 < length ds → all_ascii_digits ds ≡ true → Stops rest
     → tokens_of (ds ++ rest) ≡ a.Number (positive_in_range (number_of ds)) ∷ tokens_of rest
@@ -76,13 +70,9 @@ digits_lexed (b ∷ bs) rest l h s =
     let run : run_after b (bs ++ rest) ≡ length bs = rw (no_start, digit) (whole_run is_ascii_digit bs rest not_digit s others) in
     let no_name : is_name (b ∷ bs) ≡ false = rw no_start refl in
     let number : is_number (b ∷ bs) ≡ true = rw (digit, others) refl in
-    let value : whole_of (b ∷ bs) ≡ positive_in_range (number_of (b ∷ bs)) =
-    ap (λ t. cond t (negative_in_range (number_of bs)) (cond (b == 43) (positive_in_range (number_of bs)) (positive_in_range (number_of (b ∷ bs)))))
-    (not_minus b digit)
-    ∙ ap (λ t. cond t (positive_in_range (number_of bs)) (positive_in_range (number_of (b ∷ bs)))) (not_plus b digit) in
     let word : token_of (b ∷ bs) ≡ a.Number (positive_in_range (number_of (b ∷ bs))) =
     ap (λ t. cond t (a.Word (b ∷ bs)) (cond (is_number (b ∷ bs)) (a.Number (whole_of (b ∷ bs))) (mark_of (b ∷ bs)))) no_name
-    ∙ ap (λ t. cond t (a.Number (whole_of (b ∷ bs))) (mark_of (b ∷ bs))) number ∙ ap (λ n. a.Number n) value in
+    ∙ ap (λ t. cond t (a.Number (whole_of (b ∷ bs))) (mark_of (b ∷ bs))) number in
     tokens_of-word b bs rest (digit_no_blank b digit) run ∙ ap (λ t. t ∷ tokens_of rest) word
 
 -- a number before what stops it

@@ -8,8 +8,8 @@ use Rattle.dt_model.specs.declared.statements.Expr.{Expr, end_of-Expr, more_of-E
 use Rattle.dt_model.specs.declared.statements.Expr.TheVariants as e
 use Rattle.dt_model.specs.declared.statements.Expr.TheViews as join
 use Rattle.index_read.specs.declared.write.Precedence.TheVariants as least
-use Rattle.index_read.specs.Grammar.{Factor, Number, Access, Parens, Factors, One, Times, Terms, First, Negated, Plus, Minus, Left, Bare, Listing}
-use Rattle.index_read.specs.Canonical.{name_at, names_text, expr_text, left_text}
+use Rattle.index_read.specs.Grammar.{Factor, Number, Access, Parens, Factors, One, Times, Terms, First, Negated, Plus, Minus}
+use Rattle.index_read.specs.Canonical.{name_at, names_text, expr_text}
 
 -- ---- an expression as it is written
 

@@ -1,12 +1,12 @@
 -- The tokens of a text: their names are names, and their numbers are below 2^64.
-use Rattle.std.proofs.Common.{◌≡◌, ℕ, ◌-◌, ◌<◌, ◌^◌, ◌%◌, ◌++◌, Bool, true, false, cond, List, [], ◌∷◌, map, refl, Option, Some, None, arith, nat_lt}
-use Rattle.std.specs.Prelude.{⊤, ◌==◌, nat_le}
+use Rattle.std.proofs.Common.{◌≡◌, ℕ, ◌<◌, ◌^◌, ◌++◌, Bool, true, false, cond, List, [], ◌∷◌, map, refl, Option, Some, None, arith, nat_lt}
+use Rattle.std.specs.Prelude.{⊤, ◌==◌}
 use Rattle.std.proofs.lemmas.Bool.Decides.{nat_tests}
 use Rattle.dt_model.specs.Texts.{number_of}
 use Rattle.dt_model.specs.Names.{is_name}
 use Rattle.dt_text.specs.declared.spans.Span.{Span}
 use Rattle.dt_text.specs.Spans.{bytes_of}
-use Rattle.dt_text.specs.Numerals.{positive_in_range, negative_in_range, whole_of}
+use Rattle.dt_text.specs.Numerals.{positive_in_range, whole_of}
 use Rattle.index_read.specs.declared.lexer.Token.{Token}
 use Rattle.index_read.specs.declared.lexer.Token.TheVariants as a
 use Rattle.index_read.specs.Tokens.{spans_of, is_number, mark_of, token_of, tokens_of}
@@ -53,26 +53,9 @@ positive : (o : Option ℕ) → IsValue (positive_in_range o)
 positive None = tt
 positive (Some n) = positive_by n (nat_lt n (2 ^ 64)) refl
 
-negative_by : (n : ℕ) (b : Bool) → IsValue (cond b (Some ((2 ^ 64 - n) % 2 ^ 64)) None)
-negative_by n true = let low : (2 ^ 64 - n) % 2 ^ 64 < 2 ^ 64 = omega arith in low
-negative_by n false = tt
-
-negative : (o : Option ℕ) → IsValue (negative_in_range o)
-negative None = tt
-negative (Some n) = negative_by n (nat_le n (2 ^ 63))
-
-either_value : (b : Bool) (x y : Option ℕ) → IsValue x → IsValue y → IsValue (cond b x y)
-either_value true x y h k = h
-either_value false x y h k = k
-
--- what digits with a sign write is below 2^64
+-- what digits write is below 2^64
 whole_value : (word : List ℕ) → IsValue (whole_of word)
-whole_value [] = tt
-whole_value (b ∷ bs) =
-    either_value (b == 45) (negative_in_range (number_of bs)) (cond (b == 43) (positive_in_range (number_of bs)) (positive_in_range (number_of
-    (b ∷ bs)))) (negative (number_of bs))
-    (either_value (b == 43) (positive_in_range (number_of bs)) (positive_in_range (number_of (b ∷ bs))) (positive (number_of bs)) (positive (number_of
-    (b ∷ bs))))
+whole_value word = positive (number_of word)
 
 either_good : (b : Bool) (x y : Token) → IsGood x → IsGood y → IsGood (cond b x y)
 either_good true x y h k = h

@@ -15,6 +15,7 @@ pub mod Smallness
 pub mod Counts
 pub mod Limits
 pub mod Answering
+pub mod NamedStatements
 pub mod CanonicalLemmas
 pub mod CanonicalTrees
 pub mod CanonicalTokens

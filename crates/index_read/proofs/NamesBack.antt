@@ -1,6 +1,6 @@
 -- The variables of a statement are found again under their places, so that an expression is what its canonical trees mean.
-use Rattle.std.proofs.Common.{◌≡◌, ℕ, zero, suc, ◌+◌, ◌++◌, Bool, true, false, cond, List, [], ◌∷◌, map, fold, refl, ap, sym, ◌∙◌, subst, arith, nat_eq}
-use Rattle.std.specs.Prelude.{⊤, ◌&&◌, ◌||◌}
+use Rattle.std.proofs.Common.{◌≡◌, ℕ, suc, ◌+◌, ◌++◌, Bool, true, false, cond, List, [], ◌∷◌, map, fold, refl, ap, sym, ◌∙◌, subst, arith, nat_eq}
+use Rattle.std.specs.Prelude.{⊤, ◌||◌}
 use Rattle.std.specs.Cmp.Lexicographic.{pointwise}
 use Rattle.std.proofs.lemmas.Bool.Decides.{nat_tests}
 use Rattle.std.proofs.lemmas.List.Folds.{list_any-append}
@@ -9,7 +9,7 @@ use Rattle.index_read.specs.Scans.{has_name}
 use Rattle.index_read.specs.Building.{place_of, place_from}
 use Rattle.index_read.specs.Meaning.{with_name}
 use Rattle.index_read.specs.Canonical.{name_at}
-use Rattle.index_read.proofs.Places.{Begun, itself, with_name-begun}
+use Rattle.index_read.proofs.Places.{Begun, itself}
 use Rattle.index_read.proofs.Built.{fold_begun}
 
 -- ---- the name at the place of a name

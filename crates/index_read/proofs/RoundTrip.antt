@@ -1,19 +1,17 @@
 -- The canonical text of a statement that was read reads back to it.
-use Rattle.std.proofs.Common.{◌≡◌, ℕ, ◌+◌, ◌++◌, Bool, true, false, cond, List, [], ◌∷◌, map, refl, ap, sym, ◌∙◌, subst, Option, Some, None, Ok, Err}
-use Rattle.std.specs.Prelude.{⊤, Result}
+use Rattle.std.proofs.Common.{◌≡◌, ℕ, ◌+◌, ◌++◌, true, List, [], ◌∷◌, map, refl, ap, sym, ◌∙◌, subst, Option, Some, None, Ok, Err}
+use Rattle.std.specs.Prelude.{Result}
 use Rattle.std.specs.Option.{option_and_then}
 use Rattle.std.proofs.lemmas.List.{append_assoc, append-nil}
 use Rattle.dt_model.specs.declared.statements.Expr.{Expr}
 use Rattle.dt_model.specs.declared.statements.Stmt.{Stmt}
 use Rattle.dt_text.specs.declared.spans.Span.{Span}
 use Rattle.dt_text.specs.Spans.{bytes_of}
-use Rattle.index_read.specs.declared.lexer.Token.{Token}
 use Rattle.index_read.specs.declared.lexer.Token.TheVariants as a
 use Rattle.index_read.specs.declared.roles.Place.TheVariants as at
 use Rattle.index_read.specs.declared.roles.Role.{Role}
 use Rattle.index_read.specs.declared.scan.Scan.{Scan}
 use Rattle.index_read.specs.declared.scan.Fault.{Fault}
-use Rattle.index_read.specs.declared.read.StmtFault.{StmtFault}
 use Rattle.index_read.specs.declared.write.Precedence.TheVariants as least
 use Rattle.index_read.specs.Tokens.{spans_of, token_of, tokens_of}
 use Rattle.index_read.specs.Scans.{at_first, step}
@@ -25,7 +23,7 @@ use Rattle.index_read.specs.Readings.{tokens_in}
 use Rattle.index_read.specs.Canonical.{name_at, names_text, expr_text, canonical_text}
 use Rattle.index_read.proofs.TokensLemmas.{tokens_of-blank, tokens_of-word}
 use Rattle.index_read.proofs.CanonicalTrees.{terms_of, terms_text, list_text, list_text-map, expr_text-trees}
-use Rattle.index_read.proofs.CanonicalTokens.{AreNames, TermsAreGood, open_token, tokens_of-name, list_lexed, terms_lexed}
+use Rattle.index_read.proofs.CanonicalTokens.{TermsAreGood, open_token, tokens_of-name, list_lexed, terms_lexed}
 use Rattle.index_read.proofs.NamesBack.{AreIn, AreIn-split, AreIn-fold, names_back}
 use Rattle.index_read.proofs.GoodTokens.{AreGood, good_head, good_tail, AreGood-front, AreGood-rest, AreGood-tokens_of}
 use Rattle.index_read.proofs.CanonicalBack.{IsBack, list_names, terms_back}

@@ -1,4 +1,4 @@
--- The tree that the roles of tokens build from left to right. No public clause cites it.
+-- The tree that the roles of tokens build from left to right.
 use Rattle.std.specs.Prelude.{ℕ, ◌+◌, List, [], ◌∷◌, ◌++◌, length, Option, Some, None, unwrap_or, Result, Ok, Err, if◌then◌else◌, nat_lt, nat_eq}
 use Rattle.std.specs.Cmp.Lexicographic.{pointwise}
 use Rattle.dt_model.specs.declared.limits.TheConstants.{MOST_VARIABLES, UNDERSCORE}

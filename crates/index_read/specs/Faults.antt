@@ -27,6 +27,12 @@ abbrev pub fault_at : Fault → ℕ → StmtFault
 fault_at because.Form column = Form column
 fault_at because.Limit column = Limit column
 
+-- the column of a fault; 0 where memory runs out
+abbrev pub column_of : StmtFault → ℕ
+column_of (Form column) = column
+column_of (Limit column) = column
+column_of NoMemory = 0
+
 -- a fault at a column, or what the rest has
 abbrev pub fault_or : ℕ → Result (Scan × Role) Fault → (Scan → Option StmtFault) → Option StmtFault
 fault_or column (Err f) rest = Some (fault_at f column)

@@ -1,11 +1,11 @@
 -- What a statement as it is written means.
-use Rattle.std.specs.Prelude.{ℕ, ◌≡◌, List, [], ◌∷◌, ◌++◌, map, fold, None, Result, Ok, Err, ⊤, ◌⊎◌, unwrap_or, if◌then◌else◌}
+use Rattle.std.specs.Prelude.{ℕ, ◌≡◌, List, [], ◌∷◌, ◌++◌, map, fold, Option, Some, None, Result, Ok, Err, ⊤, ◌⊎◌, unwrap_or, if◌then◌else◌}
 use Rattle.dt_model.specs.declared.statements.Expr.{Expr}
 use Rattle.dt_model.specs.declared.statements.Expr.TheViews as join
 use Rattle.dt_model.specs.declared.statements.Expr.TheVariants as leaf
 use Rattle.dt_model.specs.declared.statements.Stmt.{Stmt}
 use Rattle.index_read.specs.Scans.{has_name}
-use Rattle.index_read.specs.Building.{place_of}
+use Rattle.index_read.specs.Building.{place_of, stmt_of, read_of}
 use Rattle.index_read.specs.Grammar.{Factor, Number, Access, Parens, Factors, One, Times, Terms, First, Negated, Plus, Minus, Left, Bare, Listing, stmt_tokens}
 use Rattle.index_read.specs.declared.read.StmtFault.{StmtFault}
 use Rattle.index_read.specs.declared.read.StmtFault.TheVariants as because
@@ -103,3 +103,21 @@ AnswersStmt stmt (Ok given) = given ≡ stmt
 AnswersStmt stmt (Err (because.Form column)) = ⊥
 AnswersStmt stmt (Err (because.Limit column)) = ⊤
 AnswersStmt stmt (Err because.NoMemory) = ⊤
+
+-- ---- the statement in a text, as the table of tokens builds it
+
+-- a value, unless there is a fault
+abbrev pub unless_fault : {X E : Type 0} → Option E → X → Result X E
+unless_fault None x = Ok x
+unless_fault (Some fault) x = Err fault
+
+-- the statement in a text, or the text's first fault
+abbrev pub statement_in : List ℕ → Result Stmt StmtFault
+statement_in text = unless_fault (first_fault text) (stmt_of (read_of text))
+
+-- what is answered is the statement in a text or its first fault, unless memory runs out
+abbrev pub AnswersReading : Result Stmt StmtFault → Result Stmt StmtFault → Type 0
+AnswersReading reading (Ok stmt) = reading ≡ Ok stmt
+AnswersReading reading (Err (because.Form column)) = reading ≡ Err (because.Form column)
+AnswersReading reading (Err (because.Limit column)) = reading ≡ Err (because.Limit column)
+AnswersReading reading (Err because.NoMemory) = ⊤

@@ -1,9 +1,9 @@
 //! The statement of a text, or its first fault with its column.
 
-ghost use Rattle.std.specs.Prelude.{◌≡◌, ◌≤◌, ◌+◌, length, true, IfOk};
-ghost use Rattle.index_read.specs.Faults.{is_end, first_fault, fault_at, AnswersFault};
+ghost use Rattle.std.specs.Prelude.{◌≡◌, ◌≤◌, ◌+◌, length, true, IfOk, IfErr};
+ghost use Rattle.index_read.specs.Faults.{is_end, first_fault, fault_at, column_of, AnswersFault};
 ghost use Rattle.index_read.specs.Building.{read_of, stmt_of};
-ghost use Rattle.index_read.specs.Meaning.{StmtText, Reads, AnswersStmt};
+ghost use Rattle.index_read.specs.Meaning.{StmtText, Reads, AnswersStmt, statement_in, AnswersReading};
 ghost use Rattle.dt_model.specs.declared.statements.Stmt.{Stmt};
 ghost use Rattle.dt_model.specs.Verdicts.{is_small};
 ghost use Rattle.dt_model.specs.declared.limits.TheConstants.{FILE_LIMIT};
@@ -56,6 +56,7 @@ fn is_end(scan: &Scan) -> bool
 fn fault_at(fault: Fault, place: usize) -> StmtFault
     requires short { place ≤ FILE_LIMIT }
     ensures value { result ≡ fault_at fault (place + 1) }
+    ensures column { column_of result ≡ place + 1 }
 {
     let column = place as u32 + 1;
     match fault {
@@ -69,6 +70,7 @@ fn read_tree(alloc: Global, text: &[u8]) -> Result<(Scan, Tree), StmtFault>
     requires short { length text.now ≤ FILE_LIMIT }
     ensures fault { AnswersFault result (first_fault text.now) }
     ensures value { IfOk result (λ r. r ≡ read_of text.now) }
+    ensures within { IfErr result (λ fault. column_of fault ≤ length text.now + 1) }
 {
     let mut scan = Scan::new();
     let mut tree = Tree::new(alloc);
@@ -96,6 +98,7 @@ fn statement(alloc: Global, text: &[u8]) -> Result<Stmt, StmtFault>
     requires short { length text.now ≤ FILE_LIMIT }
     ensures fault { AnswersFault result (first_fault text.now) }
     ensures value { IfOk result (λ s. s ≡ stmt_of (read_of text.now)) }
+    ensures within { IfErr result (λ fault. column_of fault ≤ length text.now + 1) }
 {
     let (scan, tree) = read_tree(alloc, text)?;
     let Scan {
@@ -134,6 +137,9 @@ pub fn read_stmt(alloc: Global, text: &[u8]) -> Result<Stmt, StmtFault>
     ensures only { (stmt : Stmt) → StmtText text.now stmt → AnswersStmt stmt result }
     // The fault is the first one of the table.
     ensures fault { AnswersFault result (first_fault text.now) }
+    ensures within { IfErr result (λ fault. column_of fault ≤ length text.now + 1) }
+    // All this as one value, which clauses above cite.
+    ensures value { AnswersReading (statement_in text.now) result }
     // What is read is within the limits, and its variables are in the order of their first places.
     ensures small { IfOk result (λ s. is_small s ≡ true) }
 {

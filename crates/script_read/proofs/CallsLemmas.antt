@@ -1,10 +1,11 @@
 -- Calls, word by word.
-use Rattle.std.proofs.Common.{◌≡◌, ◌<◌, ◌-◌, ◌∷◌, [], ℕ, true, false, List, map, length, take, get_or, Option, Some, None, Result, Ok, Err, refl, ap, ◌∙◌, arith}
-use Rattle.std.specs.Prelude.{MatchResult, if◌then◌else◌, nat_le}
+use Rattle.std.proofs.Common.{◌≡◌, ◌<◌, ◌+◌, ◌-◌, ◌∷◌, [], ℕ, true, false, List, map, length, take, drop, get_or, Option, Some, None, Result, Ok, Err, refl, ap, sym, subst, ◌∙◌, arith}
+use Rattle.std.specs.Prelude.{⊤, MatchResult, if◌then◌else◌, nat_le}
 use Rattle.std.specs.List.{list_all}
 use Rattle.dt_model.specs.declared.limits.TheConstants.{MOST_UPDATES}
 use Rattle.dt_model.specs.declared.replies.Refusal.{Refusal}
-use Rattle.dt_model.specs.declared.replies.Refusal.TheVariants.{Form}
+use Rattle.dt_model.specs.declared.replies.Refusal.TheVariants.{Form, Limit}
+use Rattle.dt_model.specs.declared.statements.Stmt.{Stmt}
 use Rattle.dt_model.specs.declared.written.UpdateKind.{UpdateKind}
 use Rattle.dt_model.specs.declared.written.UpdateKind.TheVariants as kind
 use Rattle.dt_model.specs.declared.written.WrittenCall.{WrittenCall}
@@ -21,13 +22,20 @@ use Rattle.dt_text.specs.declared.numerals.IndexFault.{IndexFault}
 use Rattle.dt_text.specs.declared.numerals.IndexFault.TheVariants as index
 use Rattle.dt_text.specs.declared.values.NumFault.{NumFault}
 use Rattle.dt_text.specs.declared.values.NumFault.TheVariants as value
+use Rattle.index_read.specs.declared.read.StmtFault.{StmtFault}
+use Rattle.index_read.specs.declared.read.StmtFault.TheVariants as fault
+use Rattle.index_read.specs.Meaning.{statement_in, AnswersReading}
+use Rattle.index_read.proofs.NamedStatements.{IsNamedStmt, statement_in-named}
+use Rattle.script_read.specs.declared.line_faults.LineFault.{LineFault}
+use Rattle.script_read.specs.declared.line_faults.LineFault.TheVariants as line
 use Rattle.script_read.specs.declared.verbs.Verb.{Verb}
 use Rattle.script_read.specs.declared.verbs.Verb.TheVariants as verb
 use Rattle.script_read.specs.declared.words.Word.{Word}
 use Rattle.script_read.specs.Readings.{◌>>=◌}
 use Rattle.script_read.specs.Words.{seen_word}
+use Rattle.script_read.specs.LineFaults.{Gives, IsLineFault}
 use Rattle.script_read.specs.Parts.{coordinates_and_number}
-use Rattle.script_read.specs.Calls.{written_name, coordinate_at, written_coordinate, written_coordinates, number_at, written_number, with_coordinate, written_arguments, written_update, written_batch, written_get, verb_of, call_of_verb, call_of_words}
+use Rattle.script_read.specs.Calls.{written_name, coordinate_at, written_coordinate, written_coordinates, number_at, written_number, with_coordinate, written_arguments, written_update, written_batch, written_get, stmt_behind, written_query, verb_of, call_of_verb, call_of_words}
 
 -- a coordinate before other coordinates and a number
 regrouped : (r : Result WrittenCoordinate Refusal) (s : Result (List WrittenCoordinate) Refusal) (t : Result WrittenNumber Refusal)
@@ -61,17 +69,38 @@ written_arguments-last end (w ∷ ws) z h =
     let less : length (w ∷ ws) - 1 ≡ length ws = omega arith in
     rw less (arguments_behind end w ws z)
 
+-- ---- statements
+
+-- the answer for a query
+abbrev GivesQuery : ℕ → Result Stmt StmtFault → LineFault → Type 0
+GivesQuery before r l = Gives {X = WrittenCall} (stmt_behind before r >>= (λ s. Ok (written.Query s))) (Err l)
+
+given_at : (before : ℕ) (r s : Result Stmt StmtFault) (l k : LineFault) → r ≡ s → l ≡ k → GivesQuery before s k → GivesQuery before r l
+given_at before r s l k e f h = subst (λ x. GivesQuery before x l) (sym e) (subst (λ x. GivesQuery before s x) (sym f) h)
+
+fault_given : (before : ℕ) (r : Result Stmt StmtFault) (f : StmtFault) (l : LineFault) → AnswersReading r (Err f) → IsLineFault before f l
+    → GivesQuery before r l
+fault_given before r (fault.Form column) l h k = given_at before r (Err (fault.Form column)) l (line.Refused (Form (before + column))) h k refl
+fault_given before r (fault.Limit column) l h k = given_at before r (Err (fault.Limit column)) l (line.Refused (Limit (before + column))) h k refl
+fault_given before r fault.NoMemory l h k = given_at before r r l line.NoMemory refl k tt
+
+-- a fault that is answered for the statement behind so many bytes is that of its line
+pub written_query-fault : (before : ℕ) (line text : List ℕ) (f : StmtFault) (l : LineFault) → text ≡ drop before line
+    → AnswersReading (statement_in text) (Err f) → IsLineFault before f l → Gives (written_query before line) (Err l)
+written_query-fault before line text f l behind h k =
+    subst (λ t. GivesQuery before (statement_in t) l) behind (fault_given before (statement_in text) f l h k)
+
 -- ---- what is read names names
 
 -- a refusal that names names
 abbrev pub IsNamedRefusal : Refusal → Type 0
 IsNamedRefusal r = refusal_is_named r ≡ true
 
--- a call of 1 to 64 updates, or of a cell, each of a tensor with a name
+-- a call of 1 to 64 updates, or of a cell, each of a tensor with a name, or a small statement whose names are names
 abbrev pub IsNamedCall : WrittenCall → Type 0
 IsNamedCall (written.Get n cs) = is_name n ≡ true
 IsNamedCall (written.Batch us) = (nat_le 1 (length us) ≡ true) × (nat_le (length us) MOST_UPDATES ≡ true) × (list_all (λ u. is_name u.name) us ≡ true)
-IsNamedCall (written.Query s) = ⊥
+IsNamedCall (written.Query s) = IsNamedStmt s
 
 -- a reading that another follows
 then_fits : {X Y : Type 0} (P : X → Type 0) (Q : Y → Type 0) (r : Result X Refusal) (f : X → Result Y Refusal) → MatchResult r P IsNamedRefusal
@@ -125,13 +154,26 @@ get_fits end (w ∷ ws) = then_fits (λ n. is_name n ≡ true) IsNamedCall (writ
     (name_fits w)
     (λ n named. then_fits (λ x. Unit {0}) IsNamedCall (written_coordinates ws) (λ cs. Ok (written.Get n cs)) (coordinates_fit ws) (λ cs _. named))
 
-verb_fits : (column end : ℕ) (o : Option Verb) (ws : List (ℕ × List ℕ)) → MatchResult (call_of_verb column end o ws) IsNamedCall IsNamedRefusal
-verb_fits column end None ws = refl
-verb_fits column end (Some verb.Set) ws = batch_fits kind.Set end ws
-verb_fits column end (Some verb.Add) ws = batch_fits kind.Add end ws
-verb_fits column end (Some verb.Get) ws = get_fits end ws
+stmt_fits : (before : ℕ) (r : Result Stmt StmtFault) → MatchResult r IsNamedStmt (λ fault. ⊤) → MatchResult (stmt_behind before r) IsNamedStmt IsNamedRefusal
+stmt_fits before (Ok stmt) h = h
+stmt_fits before (Err (fault.Form column)) h = refl
+stmt_fits before (Err (fault.Limit column)) h = refl
+stmt_fits before (Err fault.NoMemory) h = refl
 
--- the call that words write names names, or its refusal does
-pub call_of_words-named : (end : ℕ) (ws : List (ℕ × List ℕ)) → MatchResult (call_of_words end ws) IsNamedCall IsNamedRefusal
-call_of_words-named end [] = refl
-call_of_words-named end (w ∷ ws) = verb_fits w.0 end (verb_of w.1) ws
+query_fits : (before : ℕ) (line : List ℕ) → MatchResult (written_query before line) IsNamedCall IsNamedRefusal
+query_fits before line =
+    then_fits IsNamedStmt IsNamedCall (stmt_behind before (statement_in (drop before line))) (λ s. Ok (written.Query s))
+    (stmt_fits before (statement_in (drop before line)) (statement_in-named (drop before line))) (λ s named. named)
+
+verb_fits : (line : List ℕ) (column end : ℕ) (o : Option Verb) (ws : List (ℕ × List ℕ))
+    → MatchResult (call_of_verb line column end o ws) IsNamedCall IsNamedRefusal
+verb_fits line column end None ws = refl
+verb_fits line column end (Some verb.Set) ws = batch_fits kind.Set end ws
+verb_fits line column end (Some verb.Add) ws = batch_fits kind.Add end ws
+verb_fits line column end (Some verb.Get) ws = get_fits end ws
+verb_fits line column end (Some verb.Query) ws = query_fits (column + 4) line
+
+-- the call that the words of a line write names names, or its refusal does
+pub call_of_words-named : (line : List ℕ) (end : ℕ) (ws : List (ℕ × List ℕ)) → MatchResult (call_of_words line end ws) IsNamedCall IsNamedRefusal
+call_of_words-named line end [] = refl
+call_of_words-named line end (w ∷ ws) = verb_fits line w.0 end (verb_of w.1) ws

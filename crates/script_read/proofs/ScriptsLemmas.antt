@@ -1,11 +1,10 @@
 -- The verdicts of a script's lines are valid and within the limits.
 use Rattle.std.proofs.Common.{◌≡◌, ◌<◌, ◌≤◌, ◌+◌, ◌-◌, ◌++◌, ◌∷◌, [], ℕ, true, false, Bool, List, map, length, Option, Some, None, Result, Ok, Err, refl, sym, ap, subst, arith, length-append}
-use Rattle.std.specs.Prelude.{MatchOption, MatchResult, not, sum_by, unwrap_or, if◌then◌else◌, nat_le, nat_lt, nat_eq, ◌==◌, ◌&&◌}
+use Rattle.std.specs.Prelude.{MatchOption, MatchResult, not, sum_by, is_none, unwrap_or, if◌then◌else◌, nat_le, nat_lt, nat_eq, ◌==◌, ◌&&◌}
 use Rattle.std.specs.List.{list_all, position, position_or_len}
 use Rattle.std.specs.Cmp.Lexicographic.{pointwise}
 use Rattle.std.proofs.lemmas.Bool.Decides.{nat_tests}
 use Rattle.std.proofs.lemmas.List.{length-map}
-use Rattle.std.proofs.lemmas.List.Elements.{All-nil, All-push}
 use Rattle.std.proofs.lemmas.Option.{none-some}
 use Rattle.std.proofs.lemmas.List.Sums.{sum_by-append}
 use Rattle.dt_model.proofs.Booleans.{both_true, true_both, list_all-append}
@@ -17,7 +16,7 @@ use Rattle.dt_model.specs.declared.limits.TheConstants.{MOST_UPDATES, MOST_CALLS
 use Rattle.dt_model.specs.declared.replies.Refusal.{Refusal}
 use Rattle.dt_model.specs.declared.replies.Refusal.TheVariants as because
 use Rattle.dt_model.specs.declared.replies.Verdict.{Verdict}
-use Rattle.dt_model.specs.declared.replies.Verdict.TheVariants.{Accepted}
+use Rattle.dt_model.specs.declared.statements.Stmt.{Stmt}
 use Rattle.dt_model.specs.declared.written.UpdateKind.{UpdateKind}
 use Rattle.dt_model.specs.declared.written.UpdateKind.TheVariants as kind
 use Rattle.dt_model.specs.declared.written.WrittenCall.{WrittenCall}
@@ -30,8 +29,8 @@ use Rattle.dt_model.specs.declared.written.WrittenUpdate.{WrittenUpdate}
 use Rattle.dt_model.specs.Names.{is_name}
 use Rattle.dt_model.specs.Tensors.{tensor_named, dims_of}
 use Rattle.dt_model.specs.Texts.{words_of}
-use Rattle.dt_model.specs.Refusals.{or_else, when, first_of_all, is_in_dimension, range_fault, cell_fault, cell_fault_in, number_fault, update_fault}
-use Rattle.dt_model.specs.Verdicts.{from_zero, cell_of, written_value, update_of_kind, update_of, unless_refused, verdict, all_in_range, cell_is_valid, update_cell, call_is_valid}
+use Rattle.dt_model.specs.Refusals.{or_else, when, first_of_all, is_in_dimension, range_fault, cell_fault, cell_fault_in, number_fault, update_fault, statement_fault}
+use Rattle.dt_model.specs.Verdicts.{from_zero, cell_of, written_value, update_of_kind, update_of, unless_refused, verdict, all_in_range, cell_is_valid, update_cell, is_small, call_is_valid}
 use Rattle.dt_model.specs.Worlds.{updates_in, verdict_is_valid}
 use Rattle.dt_text.specs.Content.{content_lines, is_within_limit}
 use Rattle.dt_text.specs.Spans.{end_column}
@@ -41,8 +40,10 @@ use Rattle.script_read.specs.Readings.{◌>>=◌, check, at_line}
 use Rattle.script_read.specs.Words.{columned_words}
 use Rattle.script_read.specs.Calls.{written_call, is_built}
 use Rattle.script_read.specs.Scripts.{verdict_on, line_verdict, verdict_behind, numbered_verdict, script_of}
-use Rattle.script_read.specs.Sound.{AsksNoQuery, IsSoundScript}
+use Rattle.script_read.specs.Sound.{IsSoundScript}
 use Rattle.script_read.proofs.ReadingsLemmas.{check-Ok, Ok-same, each_after-keeps}
+use Rattle.index_read.proofs.NamedStatements.{IsNamedStmt}
+use Rattle.script_read.proofs.StatementNames.{IsNamedFault, statement_fault-named}
 use Rattle.script_read.proofs.CallsLemmas.{IsNamedRefusal, IsNamedCall, call_of_words-named}
 
 -- ---- cells
@@ -173,12 +174,21 @@ batch_valid d us None low high h =
     let high_too : nat_le (length (map (update_of d) us)) MOST_UPDATES ≡ true = rw count high in
     rw (low_too, high_too, h) refl
 
+-- a statement that isn't refused
+query_valid : (d : Decls) (s : Stmt) (o : Option Refusal) → statement_fault d s ≡ o → IsNamedStmt s → IsNamedFault o
+    → MatchOption o (call_is_valid d (calls.Query s) ≡ true) IsNamedRefusal
+query_valid d s None e h k =
+    let none : is_none (statement_fault d s) ≡ true = ap is_none e in
+    true_both (is_small s) (is_none (statement_fault d s)) h.small none
+query_valid d s (Some r) e h k = k
+
 -- the verdict on a call that names names is valid
 verdict_valid : (d : Decls) (call : WrittenCall) → IsNamedCall call → verdict_is_valid d (verdict d call) ≡ true
 verdict_valid d (written.Get n cs) h = unless_valid d (cell_fault d n cs) (calls.Get (cell_of d n cs)) (cell_valid d n cs h)
 verdict_valid d (written.Batch us) h = unless_valid d (first_of_all (map (update_fault d) us)) (calls.Batch (map (update_of d) us))
     (batch_valid d us (first_of_all (map (update_fault d) us)) h.0 h.1 (updates_valid d us h.2))
-verdict_valid d (written.Query s) h = absurd h
+verdict_valid d (written.Query s) h =
+    unless_valid d (statement_fault d s) (calls.Query s) (query_valid d s (statement_fault d s) refl h (statement_fault-named d s h))
 
 -- the verdict on what was read is valid
 read_valid : (d : Decls) (r : Result WrittenCall Refusal) → MatchResult r IsNamedCall IsNamedRefusal → verdict_is_valid d (verdict_on d r) ≡ true
@@ -187,30 +197,15 @@ read_valid d (Err r) h = h
 
 -- the verdict on a line is valid
 pub line_verdict-valid : (d : Decls) (line : List ℕ) → verdict_is_valid d (line_verdict d line) ≡ true
-line_verdict-valid d line = read_valid d (written_call line) (call_of_words-named (end_column line) (columned_words line))
-
--- no line asks for a query
-unless_no_query : (o : Option Refusal) (call : Call) → AsksNoQuery (Accepted call) → AsksNoQuery (unless_refused o call)
-unless_no_query None call h = h
-unless_no_query (Some r) call h = tt
-
-no_query : (d : Decls) (r : Result WrittenCall Refusal) → MatchResult r IsNamedCall IsNamedRefusal → AsksNoQuery (verdict_on d r)
-no_query d (Err r) h = tt
-no_query d (Ok (written.Get n cs)) h = unless_no_query (cell_fault d n cs) (calls.Get (cell_of d n cs)) tt
-no_query d (Ok (written.Batch us)) h = unless_no_query (first_of_all (map (update_fault d) us)) (calls.Batch (map (update_of d) us)) tt
-no_query d (Ok (written.Query s)) h = absurd h
-
--- the verdict on a line asks for no query
-pub line_verdict-no_query : (d : Decls) (line : List ℕ) → AsksNoQuery (line_verdict d line)
-line_verdict-no_query d line = no_query d (written_call line) (call_of_words-named (end_column line) (columned_words line))
+line_verdict-valid d line = read_valid d (written_call line) (call_of_words-named line (end_column line) (columned_words line))
 
 -- ---- scripts
 
 -- one verdict more
 script_more : (d : Decls) (most : ℕ) (vs : List Verdict) (v : Verdict) → IsSoundScript d most vs → length vs < MOST_CALLS
-    → updates_in v ≤ most - sum_by updates_in vs → verdict_is_valid d v ≡ true → AsksNoQuery v
+    → updates_in v ≤ most - sum_by updates_in vs → verdict_is_valid d v ≡ true
     → IsSoundScript d most (vs ++ v ∷ [])
-script_more d most vs v h low left valid asks =
+script_more d most vs v h low left valid =
     let so_far = h.updates in
     let all = h.valid in
     record {
@@ -218,7 +213,6 @@ script_more d most vs v h low left valid asks =
       updates = let s : sum_by updates_in (vs ++ v ∷ []) ≡ sum_by updates_in vs + sum_by updates_in (v ∷ []) = sum_by-append updates_in vs (v ∷ []) in
           let one : sum_by updates_in (v ∷ []) ≡ updates_in v = omega arith in omega arith;
       valid = list_all-append (verdict_is_valid d) vs (v ∷ []) all (rw valid refl);
-      no_query = All-push AsksNoQuery vs v h.no_query asks;
     }
 
 -- the rest of a line's tests, behind each of them
@@ -245,9 +239,9 @@ line_more d most vs line v h e =
     let low : length vs < MOST_CALLS = let t = (both_true (is_within_limit line.1) (nat_lt (length vs) MOST_CALLS) a.0).1 in grind (arith, nat_tests) in
     let few : updates_in (line_verdict d line.1) ≤ left = let t = c.0 in grind (arith, nat_tests) in
     subst (λ w. IsSoundScript d most (vs ++ w ∷ [])) (Ok-same (line_verdict d line.1) v c.1)
-    (script_more d most vs (line_verdict d line.1) h low few (line_verdict-valid d line.1) (line_verdict-no_query d line.1))
+    (script_more d most vs (line_verdict d line.1) h low few (line_verdict-valid d line.1))
 
 -- the verdicts of a script that is read are sound
 pub IsSoundScript-script_of : (d : Decls) (most : ℕ) (text : List ℕ) (vs : List Verdict) → script_of d most text ≡ Ok vs → IsSoundScript d most vs
 IsSoundScript-script_of d most text vs e = each_after-keeps (IsSoundScript d most) (numbered_verdict d most) (line_more d most) [] (content_lines text) vs
-    (record { calls = omega arith; updates = omega arith; valid = refl; no_query = All-nil AsksNoQuery }) e
+    (record { calls = omega arith; updates = omega arith; valid = refl }) e

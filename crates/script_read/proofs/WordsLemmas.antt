@@ -1,10 +1,11 @@
 -- The words of a line, one by one.
-use Rattle.std.proofs.Common.{◌≡◌, ◌∙◌, ◌++◌, ◌∷◌, [], ℕ, List, map, ap, sym, append_assoc, subst}
+use Rattle.std.proofs.Common.{◌≡◌, ◌≤◌, ◌+◌, ◌∙◌, ◌++◌, ◌∷◌, [], ℕ, List, All, length, map, ap, arith, sym, append_assoc, subst}
 use Rattle.std.proofs.lemmas.List.{map-append, append-nil}
+use Rattle.std.proofs.lemmas.List.Elements.{All-push}
 use Rattle.std.proofs.lemmas.Simd.{map-map}
 use Rattle.dt_model.specs.Texts.{words_of}
 use Rattle.dt_text.specs.declared.spans.Span.{Span}
-use Rattle.dt_text.specs.Spans.{word_spans, bytes_of}
+use Rattle.dt_text.specs.Spans.{IsSpanOf, word_spans, bytes_of}
 use Rattle.script_read.specs.declared.words.Word.{Word}
 use Rattle.script_read.specs.Words.{word_at, columned_words, seen_word, word_bytes}
 
@@ -31,3 +32,12 @@ word_more line found more w span left g e h =
     ∙ ap (λ x. x ++ map (word_at line) left) (map-append seen_word found (w ∷ []))
     ∙ append_assoc (map seen_word found) (seen_word w ∷ []) (map (word_at line) left)
     ∙ ap (λ p. map seen_word found ++ (p ∷ map (word_at line) left)) e ∙ h
+
+-- one word more in the line
+pub within_more : (line : List ℕ) (found more : List Word) (w : Word) (span : Span) → All (λ (v : Word). v.column ≤ length line + 1) found → IsSpanOf line span
+    → w.column ≡ span.from + 1 → more ≡ found ++ w ∷ [] → All (λ (v : Word). v.column ≤ length line + 1) more
+within_more line found more w span h s at g =
+    let low = s.ordered in
+    let high = s.inside in
+    subst (All (λ (v : Word). v.column ≤ length line + 1)) (sym g)
+    (All-push (λ (v : Word). v.column ≤ length line + 1) found w h (omega (arith, at, low, high)))

@@ -1,7 +1,8 @@
 -- The calls that the lines of a script write, or the column of the first fault of their form.
-use Rattle.std.specs.Prelude.{ℕ, Bool, true, not, List, [], ◌∷◌, Option, Some, None, Result, Ok, Err, ◌||◌, if◌then◌else◌, codes}
+use Rattle.std.specs.Prelude.{ℕ, ◌+◌, Bool, true, not, List, [], ◌∷◌, drop, Option, Some, None, Result, Ok, Err, if◌then◌else◌, codes}
 use Rattle.dt_model.specs.declared.replies.Refusal.{Refusal}
-use Rattle.dt_model.specs.declared.replies.Refusal.TheVariants.{Form}
+use Rattle.dt_model.specs.declared.replies.Refusal.TheVariants.{Form, Limit}
+use Rattle.dt_model.specs.declared.statements.Stmt.{Stmt}
 use Rattle.dt_model.specs.declared.written.WrittenNumber.{WrittenNumber}
 use Rattle.dt_model.specs.declared.written.WrittenNumber.TheVariants as number
 use Rattle.dt_model.specs.declared.written.WrittenCoordinate.{WrittenCoordinate}
@@ -20,6 +21,9 @@ use Rattle.dt_text.specs.declared.numerals.IndexFault.{IndexFault}
 use Rattle.dt_text.specs.declared.numerals.IndexFault.TheVariants as index
 use Rattle.dt_text.specs.declared.values.NumFault.{NumFault}
 use Rattle.dt_text.specs.declared.values.NumFault.TheVariants as value
+use Rattle.index_read.specs.declared.read.StmtFault.{StmtFault}
+use Rattle.index_read.specs.declared.read.StmtFault.TheVariants as fault
+use Rattle.index_read.specs.Meaning.{statement_in}
 use Rattle.script_read.specs.Readings.{◌>>=◌, equals_text}
 use Rattle.script_read.specs.Words.{columned_words}
 use Rattle.script_read.specs.declared.verbs.Verb.{Verb}
@@ -84,6 +88,19 @@ abbrev pub written_get : ℕ → List (ℕ × List ℕ) → Result WrittenCall R
 written_get end [] = Err (Form end)
 written_get end (w ∷ ws) = written_name w >>= (λ n. written_coordinates ws >>= (λ cs. Ok (written.Get n cs)))
 
+-- ---- statements
+
+-- the statement that was read, or why there is none, where so many bytes of the line are before its text
+abbrev pub stmt_behind : ℕ → Result Stmt StmtFault → Result Stmt Refusal
+stmt_behind before (Ok stmt) = Ok stmt
+stmt_behind before (Err (fault.Form column)) = Err (Form (before + column))
+stmt_behind before (Err (fault.Limit column)) = Err (Limit (before + column))
+stmt_behind before (Err fault.NoMemory) = Err (Limit before)
+
+-- the query of the statement that is behind so many bytes of a line
+abbrev pub written_query : ℕ → List ℕ → Result WrittenCall Refusal
+written_query before line = stmt_behind before (statement_in (drop before line)) >>= (λ s. Ok (written.Query s))
+
 -- ---- lines
 
 -- the verb that a word is
@@ -91,25 +108,28 @@ abbrev pub verb_of : List ℕ → Option Verb
 verb_of word =
     if equals_text (codes "set") word then Some verb.Set
     else (if equals_text (codes "add") word then Some verb.Add
-    else (if equals_text (codes "get") word then Some verb.Get else None))
+    else (if equals_text (codes "get") word then Some verb.Get
+    else (if equals_text (codes "query") word then Some verb.Query else None)))
 
--- the call of the verb at this column and of the words behind it
-abbrev pub call_of_verb : ℕ → ℕ → Option Verb → List (ℕ × List ℕ) → Result WrittenCall Refusal
-call_of_verb column end None ws = Err (Form column)
-call_of_verb column end (Some verb.Set) ws = written_batch kind.Set end ws
-call_of_verb column end (Some verb.Add) ws = written_batch kind.Add end ws
-call_of_verb column end (Some verb.Get) ws = written_get end ws
+-- the call of the verb at this column of a line and of the words behind it; the statement of a query is the line
+-- behind the five bytes of its verb
+abbrev pub call_of_verb : List ℕ → ℕ → ℕ → Option Verb → List (ℕ × List ℕ) → Result WrittenCall Refusal
+call_of_verb line column end None ws = Err (Form column)
+call_of_verb line column end (Some verb.Set) ws = written_batch kind.Set end ws
+call_of_verb line column end (Some verb.Add) ws = written_batch kind.Add end ws
+call_of_verb line column end (Some verb.Get) ws = written_get end ws
+call_of_verb line column end (Some verb.Query) ws = written_query (column + 4) line
 
--- the call that words write
-abbrev pub call_of_words : ℕ → List (ℕ × List ℕ) → Result WrittenCall Refusal
-call_of_words end [] = Err (Form end)
-call_of_words end (w ∷ ws) = call_of_verb w.0 end (verb_of w.1) ws
+-- the call that the words of a line write
+abbrev pub call_of_words : List ℕ → ℕ → List (ℕ × List ℕ) → Result WrittenCall Refusal
+call_of_words line end [] = Err (Form end)
+call_of_words line end (w ∷ ws) = call_of_verb line w.0 end (verb_of w.1) ws
 
 -- the call that a line writes, or the column of the first fault of its form
 abbrev pub written_call : List ℕ → Result WrittenCall Refusal
-written_call line = call_of_words (end_column line) (columned_words line)
+written_call line = call_of_words line (end_column line) (columned_words line)
 
--- whether the program has the form of a line of these words: its verb is neither `query` nor `batch`
+-- whether the program has the form of a line of these words: its verb isn't `batch`
 abbrev pub is_built : List (List ℕ) → Bool
 is_built [] = true
-is_built (w ∷ ws) = not (equals_text (codes "query") w || equals_text (codes "batch") w)
+is_built (w ∷ ws) = not (equals_text (codes "batch") w)

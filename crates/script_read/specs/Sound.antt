@@ -1,11 +1,9 @@
 -- What holds of the items of a manifest that is read, and of the verdicts of a script that is read.
 use Rattle.std.specs.Prelude.{ℕ, ◌≡◌, ◌≤◌, ◌^◌, true, false, List, [], ◌∷◌, length, sum_by, ◌&&◌, nat_lt, nat_le}
-use Rattle.std.specs.List.{list_all, All}
+use Rattle.std.specs.List.{list_all}
 use Rattle.dt_model.specs.declared.declared_tensors.Decls.{Decls}
 use Rattle.dt_model.specs.declared.limits.TheConstants.{MOST_ORDER, MOST_TENSOR_LATCHES, MOST_CALLS}
-use Rattle.dt_model.specs.declared.calls.Call.TheVariants as calls
 use Rattle.dt_model.specs.declared.replies.Verdict.{Verdict}
-use Rattle.dt_model.specs.declared.replies.Verdict.TheVariants.{Accepted, Refused}
 use Rattle.dt_model.specs.Names.{is_name}
 use Rattle.dt_model.specs.Worlds.{updates_in, verdict_is_valid}
 use Rattle.script_read.specs.declared.declarations.Declared.{Declared}
@@ -66,16 +64,8 @@ AreSound d (p ∷ ps) = IsSoundItem d p.1 × AreSound (declared_with d p.1) ps
 
 -- ---- scripts
 
--- the line asks for no query
-abbrev pub AsksNoQuery : Verdict → Type 0
-AsksNoQuery (Accepted (calls.Get cell)) = Unit {0}
-AsksNoQuery (Accepted (calls.Batch updates)) = Unit {0}
-AsksNoQuery (Accepted (calls.Query s)) = ⊥
-AsksNoQuery (Refused r) = Unit {0}
-
--- valid verdicts without queries, at most 65,536, with at most so many updates in all
+-- valid verdicts, at most 65,536, with at most so many updates in all
 pub record IsSoundScript (d : Decls) (most : ℕ) (verdicts : List Verdict) : Type 0 where
   pub calls : length verdicts ≤ MOST_CALLS
   pub updates : sum_by updates_in verdicts ≤ most
   pub valid : list_all (verdict_is_valid d) verdicts ≡ true
-  pub no_query : All AsksNoQuery verdicts

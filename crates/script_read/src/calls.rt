@@ -1,12 +1,14 @@
 //! The calls that the lines of a script write.
-ghost use Rattle.std.specs.Prelude.{◌≡◌, ◌<◌, ◌≤◌, ◌^◌, map, length, IfOk};
+ghost use Rattle.std.specs.Prelude.{◌≡◌, ◌<◌, ◌≤◌, ◌+◌, ◌^◌, map, length, drop, All, IfOk};
+ghost use Rattle.dt_model.specs.declared.limits.TheConstants.{LINE_LIMIT};
+ghost use Rattle.index_read.specs.Faults.{column_of};
 ghost use Rattle.script_read.specs.Words.{seen_word};
 ghost use Rattle.dt_model.specs.declared.replies.Refusal.TheVariants.{Form};
-ghost use Rattle.script_read.specs.LineFaults.{Gives};
+ghost use Rattle.script_read.specs.LineFaults.{Gives, IsLineFault};
 ghost use Rattle.script_read.specs.Judging.{CanBeJudged};
 ghost use Rattle.script_read.specs.Parts.{coordinates_and_number};
 ghost use Rattle.script_read.specs.declared.line_faults.LineFault.TheVariants as faults;
-ghost use Rattle.script_read.specs.Calls.{written_name, written_coordinate, written_number, written_coordinates, written_arguments, written_update, written_batch, written_get, call_of_words};
+ghost use Rattle.script_read.specs.Calls.{written_name, written_coordinate, written_number, written_coordinates, written_arguments, written_update, written_batch, written_get, written_query, call_of_words};
 
 use crate::line_faults::LineFault;
 use crate::verbs::Verb;
@@ -15,6 +17,7 @@ use dt_model::{
     List, Name, Refusal, UpdateKind, WrittenCall, WrittenCoordinate, WrittenNumber, WrittenUpdate,
 };
 use dt_text::{IndexFault, NumFault, read_index, read_value};
+use index_read::{StmtFault, read_stmt};
 use std::alloc::Global;
 
 /// A name.
@@ -171,10 +174,57 @@ fn read_get(alloc: Global, words: &[Word<'_>], end: u32) -> Result<WrittenCall, 
     }
 }
 
-/// The call that words write, or the column of the first fault of its form.
-pub fn read_call(alloc: Global, words: &[Word<'_>], end: u32) -> Result<WrittenCall, LineFault>
+/// What is behind so many bytes of a line.
+fn rest_behind(line: &[u8], before: usize) -> &[u8]
+    ensures value { result.now ≡ drop before line.now }
+{
+    match line.get(before..) {
+        Some(rest) => rest,
+        None => &[],
+    }
+}
+
+/// Why a text is no statement, where so many bytes of the line are before it.
+fn stmt_fault(fault: StmtFault, before: u32) -> LineFault
+    requires within { before + column_of fault < 2 ^ 32 }
+    ensures value { IsLineFault before fault result }
+{
+    match fault {
+        StmtFault::Form { column } => LineFault::Refused(Refusal::Form {
+            column: before + column,
+        }),
+        StmtFault::Limit { column } => LineFault::Refused(Refusal::Limit {
+            column: before + column,
+        }),
+        StmtFault::NoMemory => LineFault::NoMemory,
+    }
+}
+
+/// The query of the statement that is behind so many bytes of a line.
+fn read_query(alloc: Global, line: &[u8], before: u32) -> Result<WrittenCall, LineFault>
+    requires short { length line.now ≤ LINE_LIMIT }
+    requires within { before ≤ LINE_LIMIT + 5 }
+    ensures reads { Gives (written_query before line.now) result }
+    ensures judged { IfOk result CanBeJudged }
+{
+    match read_stmt(alloc, rest_behind(line, before as usize)) {
+        Ok(stmt) => Ok(WrittenCall::Query(stmt)),
+        Err(fault) => Err(stmt_fault(fault, before)),
+    }
+}
+
+/// The call that the words of a line write, or the column of the first fault of its form. The
+/// statement of a query begins behind the verb, which has five bytes.
+pub fn read_call(
+    alloc: Global,
+    line: &[u8],
+    words: &[Word<'_>],
+    end: u32,
+) -> Result<WrittenCall, LineFault>
+    requires short { length line.now ≤ LINE_LIMIT }
     requires few { length words.now < 2 ^ 32 }
-    ensures reads { Gives (call_of_words end (map seen_word words.now)) result }
+    requires within { All (λ w. w.column ≤ LINE_LIMIT + 1) words.now }
+    ensures reads { Gives (call_of_words line.now end (map seen_word words.now)) result }
     ensures judged { IfOk result CanBeJudged }
 {
     match words {
@@ -186,6 +236,7 @@ pub fn read_call(alloc: Global, words: &[Word<'_>], end: u32) -> Result<WrittenC
             Some(Verb::Set) => read_batch(alloc, UpdateKind::Set, rest, end),
             Some(Verb::Add) => read_batch(alloc, UpdateKind::Add, rest, end),
             Some(Verb::Get) => read_get(alloc, rest, end),
+            Some(Verb::Query) => read_query(alloc, line, verb.column + 4),
         },
     }
 }

@@ -1,16 +1,17 @@
 //! The verdict on a written call.
-ghost use Rattle.std.specs.Prelude.{◌≡◌, ◌<◌, ◌≤◌, ◌^◌, length, map, IfOk, IfSome, All};
+ghost use Rattle.std.specs.Prelude.{◌≡◌, ◌<◌, ◌≤◌, ◌^◌, true, length, map, IfOk, IfSome, All};
 ghost use Rattle.dt_model.specs.declared.limits.TheConstants.{MOST_COORDINATES};
 ghost use Rattle.dt_model.specs.declared.written.WrittenCall.TheVariants as written;
 ghost use Rattle.dt_model.specs.Tensors.{tensor_named, dims_of};
 ghost use Rattle.dt_model.specs.Refusals.{is_in_dimension, range_fault, cell_fault, number_fault, update_fault};
-ghost use Rattle.dt_model.specs.Verdicts.{from_zero, cell_of, written_value, update_of_kind, update_of, verdict};
+ghost use Rattle.dt_model.specs.Verdicts.{from_zero, cell_of, written_value, update_of_kind, update_of, verdict, is_small};
 ghost use Rattle.script_read.specs.Judging.{CanBeJudged, IsFirstFault, coordinates_fault};
 
 use dt_model::{
-    Call, Cell, Coords, Decls, List, Name, NoMemory, Refusal, Update, UpdateKind, Updates, Verdict,
-    WrittenCall, WrittenCoordinate, WrittenNumber, WrittenUpdate,
+    Call, Cell, Coords, Decls, List, Name, NoMemory, Refusal, Stmt, Update, UpdateKind, Updates,
+    Verdict, WrittenCall, WrittenCoordinate, WrittenNumber, WrittenUpdate,
 };
+use index_check::{CheckFault, check_stmt};
 use std::alloc::Global;
 
 /// The number of the tensor with this name. It takes time by the number of tensors.
@@ -182,20 +183,32 @@ fn judge_batch(alloc: Global, decls: &Decls, updates: &[WrittenUpdate]) -> Resul
     Ok(Verdict::Accepted(Call::Batch(accepted)))
 }
 
+/// The verdict on a query.
+fn judge_query(alloc: Global, decls: &Decls, stmt: Stmt) -> Result<Verdict, NoMemory>
+    requires small { is_small stmt ≡ true }
+    ensures value { IfOk result (λ v. v ≡ verdict decls.now (written.Query stmt)) }
+{
+    match check_stmt(alloc, decls, &stmt) {
+        Ok(_plan) => Ok(Verdict::Accepted(Call::query(alloc, stmt)?)),
+        Err(CheckFault::Refused(refusal)) => Ok(Verdict::Refused(refusal)),
+        Err(CheckFault::NoMemory) => Err(NoMemory),
+    }
+}
+
 /// The verdict on a written call: the call that it asks for, or the first reason to refuse it.
-pub fn judge(alloc: Global, decls: &Decls, call: &WrittenCall) -> Result<Verdict, NoMemory>
+pub fn judge(alloc: Global, decls: &Decls, call: WrittenCall) -> Result<Verdict, NoMemory>
     requires few { length decls.now.tensors < 2 ^ 32 }
-    requires judged { CanBeJudged call.now }
-    ensures value { IfOk result (λ v. v ≡ verdict decls.now call.now) }
+    requires judged { CanBeJudged call }
+    ensures value { IfOk result (λ v. v ≡ verdict decls.now call) }
 {
     match call {
         WrittenCall::Get { name, coordinates } => {
-            match judge_cell(decls, name, coordinates.as_slice()) {
+            match judge_cell(decls, &name, coordinates.as_slice()) {
                 Ok(cell) => Ok(Verdict::Accepted(Call::Get(cell))),
                 Err(refusal) => Ok(Verdict::Refused(refusal)),
             }
         }
         WrittenCall::Batch(updates) => judge_batch(alloc, decls, updates.as_slice()),
-        WrittenCall::Query(_) => unreachable!(),
+        WrittenCall::Query(stmt) => judge_query(alloc, decls, stmt),
     }
 }

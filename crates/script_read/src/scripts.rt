@@ -1,5 +1,5 @@
 //! The verdicts on a script's lines.
-ghost use Rattle.std.specs.Prelude.{◌≡◌, ◌≤◌, ◌<◌, ◌^◌, true, length, map, IfOk};
+ghost use Rattle.std.specs.Prelude.{◌≡◌, ◌≤◌, ◌<◌, ◌+◌, ◌^◌, true, length, map, All, IfOk};
 ghost use Rattle.dt_model.specs.declared.limits.TheConstants.{LINE_LIMIT, FILE_LIMIT};
 ghost use Rattle.dt_model.specs.Worlds.{decls_are_valid, updates_in};
 ghost use Rattle.tns_io.specs.Faults.{Tells};
@@ -40,10 +40,11 @@ fn read_verdict(
     requires short { length line.now ≤ LINE_LIMIT }
     requires few_words { length words.now ≤ LINE_LIMIT }
     requires words { map seen_word words.now ≡ columned_words line.now }
+    requires within { All (λ w. w.column ≤ LINE_LIMIT + 1) words.now }
     ensures value { IfOk result (λ v. v ≡ line_verdict decls.now line.now) }
 {
-    match read_call(alloc, words, end_column(line) as u32) {
-        Ok(call) => judge(alloc, decls, &call),
+    match read_call(alloc, line, words, end_column(line) as u32) {
+        Ok(call) => judge(alloc, decls, call),
         Err(LineFault::Refused(refusal)) => Ok(Verdict::Refused(refusal)),
         Err(LineFault::NoMemory) => Err(NoMemory),
     }

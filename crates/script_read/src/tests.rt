@@ -9,6 +9,7 @@ use dt_model::{
     Verdict, Verdicts,
 };
 use dt_text::{append, write_number};
+use index_read::write_stmt;
 use std::alloc::Global;
 use std::test::Fail;
 use tns_io::{FileCause, ReadFault};
@@ -332,11 +333,16 @@ fn verdicts_of(rt: &HostRuntime, text: &[u8], most: u32) -> Result<Verdicts, Rea
 enum Wanted {
     Accepted,
     Form(u32),
+    Limit(u32),
     Name,
     Rank(u32, u32),
     Range(u32, u32),
     NotWhole,
     TooLarge,
+    Dimension(u32, u32),
+    Repeated,
+    Access(u32),
+    Uncovered(u32),
     Other,
 }
 
@@ -350,7 +356,13 @@ fn about(verdict: &Verdict) -> Wanted {
         Verdict::Refused(Refusal::Range { mode, dim, .. }) => Wanted::Range(*mode, *dim),
         Verdict::Refused(Refusal::NotWhole) => Wanted::NotWhole,
         Verdict::Refused(Refusal::TooLarge) => Wanted::TooLarge,
-        Verdict::Refused(_) => Wanted::Other,
+        Verdict::Refused(Refusal::Limit { column }) => Wanted::Limit(*column),
+        Verdict::Refused(Refusal::Dimension { first, second, .. }) => {
+            Wanted::Dimension(*first, *second)
+        }
+        Verdict::Refused(Refusal::Repeated { .. }) => Wanted::Repeated,
+        Verdict::Refused(Refusal::Access { term }) => Wanted::Access(*term),
+        Verdict::Refused(Refusal::Uncovered { term, .. }) => Wanted::Uncovered(*term),
     }
 }
 
@@ -413,6 +425,90 @@ fn each_refusal_of_a_line_and_which_of_two_comes_first(rt: HostRuntime) {
 }
 
 #[test]
+fn each_refusal_of_a_query_and_which_of_two_comes_first(rt: HostRuntime) {
+    for (line, wanted) in [
+        // accepted; the name on the left may be that of a tensor
+        (&b"query a = v(i)"[..], Wanted::Accepted),
+        (b" query\tv(i)=B(i,j)*2 - -(B(i,k))\r\n", Wanted::Form(24)),
+        (b" query\tv(i)=B(i,j)*2 - (-B(i,k))\r\n", Wanted::Accepted),
+        // no form: columns are of the line; a missing statement would stand at its end
+        (b"query", Wanted::Form(6)),
+        (b"  query  ", Wanted::Form(8)),
+        (b"query 5a = v(i)", Wanted::Form(7)),
+        (b"query a = v(i", Wanted::Form(14)),
+        (b"  query a = v(i) ; # ", Wanted::Form(18)),
+        (b"query a = 2b(i)", Wanted::Form(12)),
+        // limits
+        (
+            b"query a = v(i)*v(i)*v(i)*v(i)*v(i)*v(i)*v(i)*v(i)*v(i)*v(i)*v(i)*v(i)*v(i)",
+            Wanted::Limit(71),
+        ),
+        (
+            b"query a = 1*2*3*4*5*6*7*8*9*1*2*3*4*v(i)",
+            Wanted::Limit(35),
+        ),
+        (b"query a(i,j,k,l,m,n,o,p,q) = v(i)", Wanted::Limit(25)),
+        (b"query a = (((((((((((((((((v(i", Wanted::Limit(27)),
+        (b"query a = 18446744073709551616", Wanted::Limit(11)),
+        // form before limit, also in one column
+        (b"query a = ) + 18446744073709551616", Wanted::Form(11)),
+        (b"query 18446744073709551616", Wanted::Form(7)),
+        // form and limit before name
+        (b"query a = w(i", Wanted::Form(14)),
+        (b"query a = w(i) * 18446744073709551616", Wanted::Limit(18)),
+        // name, and before rank
+        (b"query a = w(i)", Wanted::Name),
+        (b"query a = v(i,j) * w(i)", Wanted::Name),
+        // rank, and before dimension
+        (b"query a = v(i,j)", Wanted::Rank(2, 1)),
+        (b"query a = B(i,j)*B(j,i)*v(i,j)", Wanted::Rank(2, 1)),
+        // dimension, and before repeated
+        (b"query a = v(i)*B(i,j)", Wanted::Dimension(5, 2)),
+        (b"query a = B(i,i)", Wanted::Dimension(2, 3)),
+        (b"query a(i,i) = v(i)*B(i,j)", Wanted::Dimension(5, 2)),
+        // repeated, and before access
+        (b"query a(i,i) = v(i)", Wanted::Repeated),
+        (b"query a(i,i) = 2 + v(i)", Wanted::Repeated),
+        // access, and before uncovered
+        (b"query a = 2", Wanted::Access(1)),
+        (b"query a = v(i) - 2", Wanted::Access(2)),
+        (b"query a(i) = v(j) + 2", Wanted::Access(2)),
+        // uncovered
+        (b"query a(i) = v(j)", Wanted::Uncovered(1)),
+        (b"query a(i) = v(i) - v(j)", Wanted::Uncovered(2)),
+        (b"query a = v(i) * (B(j,k) + 2)", Wanted::Uncovered(1)),
+    ] {
+        assert!(rt; about_line(&rt, line) == wanted);
+    }
+}
+
+/// The canonical text of the statement that a script of one line asks for.
+fn asked(rt: &HostRuntime, line: &[u8]) -> Result<Vec<u8>, Fail> {
+    let verdicts = verdicts_of(rt, line, 0)?;
+    let mut text = Vec::new(rt.alloc());
+    if let Some(Verdict::Accepted(Call::Query(stmt))) = verdicts.get(0) {
+        write_stmt(rt.alloc(), stmt.get(), &mut text)?;
+    }
+    Ok(text)
+}
+
+#[test]
+fn a_query_has_the_statement_of_its_line(rt: HostRuntime) -> Result<(), Fail> {
+    for (line, text) in [
+        (&b"query a=v(i)"[..], &b"a = v(i)"[..]),
+        (
+            b"query query(query)=(B(query,v)*(v(k)-(2*v(k))))",
+            b"query(query) = B(query,v) * (v(k) - 2 * v(k))",
+        ),
+        (b"\tquery y(j) = - B( i , j )", b"y(j) = -B(i,j)"),
+    ] {
+        let found = asked(&rt, line)?;
+        assert_eq!(rt; found.as_slice(), text);
+    }
+    Ok(())
+}
+
+#[test]
 fn calls_have_the_cells_and_values_of_their_lines(rt: HostRuntime) {
     let text = b"# both\nset B 2 3 2.50e1\n\nadd v 5 -1\nget B 1 2";
     match verdicts_of(&rt, text, 2) {
@@ -461,9 +557,8 @@ fn script_fault(rt: &HostRuntime, text: &[u8], most: u32) -> Option<(u32, FileCa
 #[test]
 fn faults_of_a_script(rt: HostRuntime) {
     for (text, most, fault) in [
-        (&b"query a = v(i)"[..], 9, Some((1, FileCause::NotBuilt))),
         (
-            b"get v 1\n\nbatch set v 1 1",
+            &b"get v 1\n\nbatch set v 1 1"[..],
             9,
             Some((3, FileCause::NotBuilt)),
         ),
@@ -477,7 +572,7 @@ fn faults_of_a_script(rt: HostRuntime) {
         (b"set v 1 1", 0, Some((1, FileCause::Limit))),
         (b"get v 1\nsub v 1", 0, None),
         // a fault before a later one
-        (b"set v 1 1\nquery a = v(i)", 0, Some((1, FileCause::Limit))),
+        (b"set v 1 1\nbatch", 0, Some((1, FileCause::Limit))),
     ] {
         assert!(rt; script_fault(&rt, text, most) == fault);
     }
@@ -485,12 +580,14 @@ fn faults_of_a_script(rt: HostRuntime) {
     for (head, line, count, fault) in [
         // 4,096 bytes of a line, and one more, which comes before not built
         (
-            &b"query"[..],
+            &b"batch"[..],
             &b" "[..],
             4091,
             Some((1, FileCause::NotBuilt)),
         ),
-        (b"query", b" ", 4092, Some((1, FileCause::Limit))),
+        (b"batch", b" ", 4092, Some((1, FileCause::Limit))),
+        (b"query a=v(i)", b" ", 4084, None),
+        (b"query a=v(i)", b" ", 4085, Some((1, FileCause::Limit))),
         // 65,536 lines, and one more
         (b"#\n", b"x\n", 65_536, None),
         (b"#\n", b"x\n", 65_537, Some((65_538, FileCause::Limit))),

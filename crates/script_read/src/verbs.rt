@@ -14,6 +14,8 @@ pub enum Verb {
     Add,
     /// `get NAME C1 .. Cr`.
     Get,
+    /// `query STATEMENT`.
+    Query,
 }
 
 impl Verb {
@@ -27,6 +29,8 @@ impl Verb {
             Some(Verb::Add)
         } else if equals_text(word, "get") {
             Some(Verb::Get)
+        } else if equals_text(word, "query") {
+            Some(Verb::Query)
         } else {
             None
         }
@@ -39,6 +43,6 @@ pub fn is_built(words: &[Word<'_>]) -> bool
 {
     match words {
         [] => true,
-        [verb, ..] => !(equals_text(verb.bytes, "query") || equals_text(verb.bytes, "batch")),
+        [verb, ..] => !equals_text(verb.bytes, "batch"),
     }
 }

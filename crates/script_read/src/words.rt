@@ -1,5 +1,5 @@
 //! The words of a line, with their columns.
-ghost use Rattle.std.specs.Prelude.{◌≡◌, ◌<◌, ◌≤◌, ◌+◌, ◌^◌, length, map, IfOk};
+ghost use Rattle.std.specs.Prelude.{◌≡◌, ◌<◌, ◌≤◌, ◌+◌, ◌^◌, length, map, IfOk, All};
 ghost use Rattle.dt_model.specs.Texts.{words_of};
 ghost use Rattle.script_read.specs.Readings.{equals_text};
 ghost use Rattle.script_read.specs.Words.{columned_words, seen_word, word_bytes};
@@ -30,6 +30,7 @@ pub fn words_in<'a>(alloc: Global, line: &'a [u8]) -> Result<Vec<Word<'a>>, NoMe
     ensures columned { IfOk result (λ ws. map seen_word ws.items ≡ columned_words line.now) }
     ensures words { IfOk result (λ ws. map word_bytes ws.items ≡ words_of line.now) }
     ensures count { IfOk result (λ ws. length ws.items ≤ length line.now) }
+    ensures within { IfOk result (λ ws. All (λ w. w.column ≤ length line.now + 1) ws.items) }
 {
     let mut found = Vec::new(alloc);
     let mut spans = words(line);

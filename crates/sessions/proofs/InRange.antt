@@ -1,28 +1,23 @@
 -- Contents that are 0 outside the dimensions of their tensors, and valid lines and calls that keep them so.
-use Rattle.std.proofs.Common.{◌≡◌, ℕ, ◌+◌, ◌%◌, ◌^◌, Bool, true, false, List, [], ◌∷◌, refl, ap, sym, ◌∙◌, subst, IsTrue}
-use Rattle.std.specs.Prelude.{◌&&◌, nat_le, nat_lt, if◌then◌else◌, fold, length, All}
+use Rattle.std.proofs.Common.{◌≡◌, ℕ, ◌+◌, ◌%◌, ◌^◌, Bool, true, false, List, [], ◌∷◌, refl, ap, sym, ◌∙◌, subst}
+use Rattle.std.specs.Prelude.{◌&&◌, nat_le, nat_lt, if◌then◌else◌, fold, length}
 use Rattle.std.specs.List.{list_all, enumerate_from}
-use Rattle.std.proofs.lemmas.List.Elements.{All-head, All-tail}
 use Rattle.dt_model.specs.declared.calls.Call.{Call}
 use Rattle.dt_model.specs.declared.calls.Call.TheVariants.{Get, Batch, Query}
 use Rattle.dt_model.specs.declared.calls.Cell.{Cell}
-use Rattle.dt_model.specs.declared.calls.Entry.{Entry}
 use Rattle.dt_model.specs.declared.calls.Update.{Update}
 use Rattle.dt_model.specs.declared.calls.Update.TheVariants.{Set, Add}
 use Rattle.dt_model.specs.declared.declared_tensors.Decls.{Decls}
 use Rattle.dt_model.specs.declared.limits.TheConstants.{MOST_UPDATES}
 use Rattle.dt_model.specs.declared.replies.World.{World}
 use Rattle.dt_model.specs.Contents.{Contents, no_cells, same_cell, with_cell, with_more, with_update, with_updates}
-use Rattle.dt_model.specs.Runs.{with_lines, base_of, after_call, after_entries, contents_after}
+use Rattle.dt_model.specs.Runs.{with_lines, base_of, after_call}
 use Rattle.dt_model.specs.Tensors.{dims_of}
 use Rattle.dt_model.specs.Verdicts.{all_in_range, cell_is_valid, update_cell, call_is_valid}
 use Rattle.dt_model.specs.Worlds.{IsValid, loads_are_valid}
 use Rattle.dt_model.proofs.Booleans.{both_true}
 use Rattle.commit_core.proofs.MachineLemmas.{same_cell-is}
-
--- contents that are 0 wherever the coordinates aren't in range
-abbrev pub IsInRange : Decls → Contents → Type 0
-IsInRange d m = (t : ℕ) (c : List ℕ) → all_in_range (dims_of d t) c ≡ false → m t c ≡ 0
+use Rattle.sessions.specs.RunState.{IsInRange}
 
 IsInRange-with_cell : (d : Decls) (m : Contents) (t : ℕ) (a : List ℕ) (v : ℕ) → all_in_range (dims_of d t) a ≡ true → IsInRange d m
     → IsInRange d (with_cell m t a v)
@@ -51,7 +46,8 @@ IsInRange-with_updates d m (u ∷ us) valid h =
     let both = both_true (cell_is_valid d (update_cell u)) (list_all (λ x. cell_is_valid d (update_cell x)) us) valid in
     IsInRange-with_updates d (with_update m u) us both.1 (IsInRange-with_update d m u both.0 h)
 
-IsInRange-after_call : (d : Decls) (m : Contents) (call : Call) → call_is_valid d call ≡ true → IsInRange d m → IsInRange d (after_call m call)
+-- a valid call keeps contents so
+pub IsInRange-after_call : (d : Decls) (m : Contents) (call : Call) → call_is_valid d call ≡ true → IsInRange d m → IsInRange d (after_call m call)
 IsInRange-after_call d m (Get cell) valid h = h
 IsInRange-after_call d m (Batch us) valid h =
     IsInRange-with_updates d m us (both_true (nat_le 1 (length us)
@@ -73,14 +69,6 @@ IsInRange-base d m n (lines ∷ more) valid h =
     let both = both_true (loads_are_valid d (n, lines)) (list_all (loads_are_valid d) (enumerate_from (n + 1) more)) valid in
     IsInRange-base d (with_lines m n lines) (n + 1) more both.1 (IsInRange-with_lines d m n lines both.0 h)
 
-IsInRange-after_entries : (d : Decls) (m : Contents) (es : List Entry) → All (λ e. IsTrue (call_is_valid d e.call)) es → IsInRange d m
-    → IsInRange d (after_entries m es)
-IsInRange-after_entries d m [] valid h = h
-IsInRange-after_entries d m (e ∷ es) valid h = IsInRange-after_entries d (after_call m e.call) es (All-tail (λ x. IsTrue (call_is_valid d x.call)) e es valid)
-    (IsInRange-after_call d m e.call (All-head (λ x. IsTrue (call_is_valid d x.call)) e es valid) h)
-
--- what valid calls make of a valid world's base is 0 outside the dimensions
-pub IsInRange-contents_after : (w : World) (es : List Entry) → IsValid w → All (λ e. IsTrue (call_is_valid w.decls e.call)) es
-    → IsInRange w.decls (contents_after w es)
-IsInRange-contents_after w es v calls = IsInRange-after_entries w.decls (base_of w) es calls
-    (IsInRange-base w.decls no_cells 0 w.base v.loads (λ t c out. refl))
+-- the base of a valid world is 0 outside the dimensions
+pub IsInRange-base_of : (w : World) → IsValid w → IsInRange w.decls (base_of w)
+IsInRange-base_of w v = IsInRange-base w.decls no_cells 0 w.base v.loads (λ t c out. refl)

@@ -1,1 +1,3 @@
 pub mod RunState
+pub mod QueryTables
+pub mod FourTensors

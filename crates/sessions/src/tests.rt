@@ -1,19 +1,19 @@
 //! Loads, calls and nonzeros of a small world of four tensors.
 
-ghost use Rattle.std.specs.Prelude.{◌≡◌, ◌<◌, ◌≤◌, [], ◌∷◌, ◌++◌, IfOk, OnOk};
-ghost use Rattle.dt_model.specs.declared.calls.Call.TheVariants.{Get, Batch};
-ghost use Rattle.dt_model.specs.declared.calls.Call.{Call};
+ghost use Rattle.std.specs.Prelude.{◌≡◌, true, ◌<◌, ◌≤◌, [], ◌∷◌, ◌++◌, IfOk, OnOk};
+ghost use Rattle.dt_model.specs.declared.calls.Call.TheVariants.{Get, Batch, Query};
 ghost use Rattle.dt_model.specs.declared.calls.Update.TheVariants.{Set, Add};
-ghost use Rattle.dt_model.specs.Flat.{flat_schema};
+ghost use Rattle.dt_model.specs.Verdicts.{call_is_valid};
 ghost use Rattle.dt_model.specs.Worlds.{IsValid};
-ghost use Rattle.commit_core.specs.Orders.{orders_of, IsCallOf};
-ghost use Rattle.sessions.specs.RunState.{IsNoQuery};
+ghost use Rattle.commit_core.specs.Orders.{orders_of};
+ghost use Rattle.dt_model.specs.declared.statements.Expr.TheVariants.{Access};
+ghost use Rattle.sessions.specs.FourTensors.{four_tensors};
 
 use crate::plain::Plain;
 use arrayvec::ArrayVec;
 use dt_model::{
-    Base, Call, Cell, Coords, Decls, List, Name, NoMemory, Pairs, Reply, Schema, TensorDecl, Turn,
-    Update, Updates, World,
+    Base, Call, Cell, Coords, Decls, Expr, List, Name, NoMemory, Nonzeros, Pairs, Reply, Schema,
+    Stmt, TensorDecl, Turn, Update, Updates, Vars, World,
 };
 use std::alloc::Global;
 use std::process::Abort;
@@ -145,13 +145,7 @@ fn lines_of_t(alloc: Global) -> Result<Pairs, NoMemory>
 
 /// The declarations of u, m, t and e.
 fn declared(alloc: Global) -> Result<Decls, NoMemory>
-    ensures value { IfOk result (λ d. d ≡ record {
-      schemas = flat_schema ∷ [];
-      tensors = (record { name = 117 ∷ []; dims = 4 ∷ []; formats = record { items = 0 ∷ [] }; latches = 1 })
-          ∷ (record { name = 109 ∷ []; dims = 3 ∷ 2 ∷ []; formats = record { items = 0 ∷ 0 ∷ [] }; latches = 1 })
-          ∷ (record { name = 116 ∷ []; dims = 2 ∷ 2 ∷ 2 ∷ 2 ∷ 3 ∷ []; formats = record { items = 0 ∷ 0 ∷ 0 ∷ 0 ∷ 0 ∷ [] }; latches = 1 })
-          ∷ (record { name = 101 ∷ []; dims = 2 ∷ []; formats = record { items = 0 ∷ [] }; latches = 1 }) ∷ [];
-    }) }
+    ensures value { IfOk result (λ d. d ≡ four_tensors) }
 {
     let mut schemas = List::new(alloc);
     schemas.push(Schema::flat())?;
@@ -181,7 +175,7 @@ fn lines(alloc: Global) -> Result<Base, NoMemory>
 /// Tensor 0 is u with dimension 4, 1 is m, 2 is t and 3 is e, which has dimension 2 and no lines.
 fn four_tensors(alloc: Global) -> Result<World, NoMemory>
     ensures valid { IfOk result (λ w. IsValid w) }
-    ensures orders { IfOk result (λ w. orders_of w.decls ≡ 1 ∷ 2 ∷ 5 ∷ 1 ∷ []) }
+    ensures decls { IfOk result (λ w. w.decls ≡ four_tensors) }
 {
     let decls = declared(alloc)?;
     let base = lines(alloc)?;
@@ -215,18 +209,40 @@ fn add(alloc: Global, tensor: u32, at: Coords, value: u64) -> Call
     Call::Batch(Updates::of_one(alloc, Update::Add { cell, value }))
 }
 
+/// The query `a(i) = u(i)`.
+fn query_u(alloc: Global) -> Result<Call, NoMemory>
+    ensures value { IfOk result (λ call. call ≡ Query (record { name = 97 ∷ []; vars = record { items = (105 ∷ []) ∷ [] }; left = 0 ∷ []; right = Access (117 ∷ []) (0 ∷ []) })) }
+{
+    let mut names = ArrayVec::new();
+    names.push(named(b'i')?);
+    let mut left = Vars::new();
+    left.push(0);
+    let mut vars = Vars::new();
+    vars.push(0);
+    let stmt = Stmt {
+        name: named(b'a')?,
+        vars: names,
+        left,
+        right: Expr::Access {
+            tensor: named(b'u')?,
+            vars,
+        },
+    };
+    Call::query(alloc, stmt)
+}
+
 /// Makes a call of session 1.
-fn make(plain: &mut Plain, number: u32, call: Call) -> Result<Reply, NoMemory>
-    requires orders { plain.old.orders ≡ 1 ∷ 2 ∷ 5 ∷ 1 ∷ [] }
-    requires no_query { IsNoQuery call }
-    requires cells { IsCallOf (1 ∷ 2 ∷ 5 ∷ 1 ∷ []) call }
+fn make(decls: &Decls, plain: &mut Plain, number: u32, call: Call) -> Result<Reply, NoMemory>
+    requires decls { decls.now ≡ four_tensors }
+    requires orders { plain.old.orders ≡ orders_of four_tensors }
+    requires valid { call_is_valid four_tensors call ≡ true }
     requires above { plain.old.last < number }
     requires below { number ≤ plain.old.calls }
-    ensures orders { OnOk result (plain.new.orders ≡ 1 ∷ 2 ∷ 5 ∷ 1 ∷ []) }
+    ensures orders { OnOk result (plain.new.orders ≡ orders_of four_tensors) }
     ensures last { OnOk result (plain.new.last ≡ number) }
     ensures calls { OnOk result (plain.new.calls ≡ plain.old.calls) }
 {
-    Ok(plain.call(Turn { session: 1, number }, call)?)
+    Ok(plain.call(decls, Turn { session: 1, number }, call)?)
 }
 
 /// The nonzeros of a tensor, each as its coordinates and its value, one behind the other.
@@ -270,10 +286,12 @@ fn a_load_adds_up_repeats_and_drops_zeros(rt: HostRuntime) -> Result<(), Fail> {
 fn a_get_reads_what_the_calls_before_it_left(rt: HostRuntime) -> Result<(), Fail> {
     let alloc = rt.alloc();
     let world = four_tensors(alloc)?;
+    let decls = &world.decls;
     let mut plain = Plain::open(alloc, &world, 3)?;
-    assert_eq!(rt; make(&mut plain, 1, get(0, at1(1)))?, Reply::Value(0));
-    assert_eq!(rt; make(&mut plain, 2, set(alloc, 0, at1(1), 5))?, Reply::Done);
-    assert_eq!(rt; make(&mut plain, 3, get(0, at1(1)))?, Reply::Value(5));
+    let before = make(decls, &mut plain, 1, get(0, at1(1)))?;
+    make(decls, &mut plain, 2, set(alloc, 0, at1(1), 5))?;
+    let behind = make(decls, &mut plain, 3, get(0, at1(1)))?;
+    assert_eq!(rt; (before, behind), (Reply::Value(0), Reply::Value(5)));
     check_pairs(&rt, alloc, &plain, 0, &[1, 5, 2, 2])
 }
 
@@ -281,13 +299,38 @@ fn a_get_reads_what_the_calls_before_it_left(rt: HostRuntime) -> Result<(), Fail
 fn a_cell_that_becomes_zero_drops_out(rt: HostRuntime) -> Result<(), Fail> {
     let alloc = rt.alloc();
     let world = four_tensors(alloc)?;
+    let decls = &world.decls;
     let mut plain = Plain::open(alloc, &world, 2)?;
-    make(&mut plain, 1, set(alloc, 0, at1(2), 0))?;
+    make(decls, &mut plain, 1, set(alloc, 0, at1(2), 0))?;
     make(
+        decls,
         &mut plain,
         2,
         add(alloc, 1, at2(0, 0), 18_446_744_073_709_551_615),
     )?;
     check_pairs(&rt, alloc, &plain, 0, &[])?;
     check_pairs(&rt, alloc, &plain, 1, &[2, 0, 4, 2, 1, 11])
+}
+
+#[test]
+fn a_query_reads_what_the_calls_before_it_left(rt: HostRuntime) -> Result<(), Fail> {
+    let alloc = rt.alloc();
+    let world = four_tensors(alloc)?;
+    let decls = &world.decls;
+    let mut plain = Plain::open(alloc, &world, 3)?;
+    let mut before = Nonzeros::new(alloc);
+    before.push((at1(2), 2))?;
+    assert_eq!(rt;
+        make(decls, &mut plain, 1, query_u(alloc)?)?,
+        Reply::Result(before)
+    );
+    make(decls, &mut plain, 2, set(alloc, 0, at1(1), 5))?;
+    let mut behind = Nonzeros::new(alloc);
+    behind.push((at1(1), 5))?;
+    behind.push((at1(2), 2))?;
+    assert_eq!(rt;
+        make(decls, &mut plain, 3, query_u(alloc)?)?,
+        Reply::Result(behind)
+    );
+    Ok(())
 }

@@ -1,10 +1,10 @@
 use Rattle.std.proofs.Common.{sym, ◌∙◌}
-use Rattle.dyntensor.proofs.ScriptRows.{one_line_more, may_run}
+use Rattle.dyntensor.proofs.ScriptRows.{one_line_more, valid_line}
 use Rattle.dyntensor.proofs.runs.run_script.Goals as goal
 
-pub run_line-requires-clause-may_run : goal.run_line-requires-clause-may_run
-run_line-requires-clause-may_run c = may_run c.args.world.now c.args.script.now _ c.loop-i.i c.index-script-i.result c.requires.session
-    c.loop-i.invariant.0.now.orders c.loop-i-test.true (sym c.index-script-i.is)
+pub run_line-requires-clause-valid : goal.run_line-requires-clause-valid
+run_line-requires-clause-valid c = valid_line c.args.world.now c.args.script.now c.loop-i.i c.index-script-i.result c.requires.session
+    c.loop-i-test.true (sym c.index-script-i.is)
 
 pub loop-i-preserved : goal.loop-i-preserved
 loop-i-preserved c =

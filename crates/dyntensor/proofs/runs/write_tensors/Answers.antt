@@ -20,7 +20,7 @@ loop-tensor-preserved c =
     let at : slice_get ts t ≡ Some tensor = subst (λ xs. slice_get {X = TensorDecl} xs t ≡ Some tensor) same
     (slice_get-get_or c.as_slice-tensors.result.now t c.index-tensors-tensor.result there) in
     let pairs = c.in_ok-nonzeros.nonzeros in
-    let is = c.in_ok-nonzeros.ensures.value w c.requires.runnable.valid c.requires.finished.now c.requires.finished.order.legal.calls in
+    let is = c.in_ok-nonzeros.ensures.value w c.requires.finished.now in
     tensors_text w es c.args.printed.now i t c.args.text.now.items c.loop-tensor.text.items c.write_tensor.new.text.items
     (slice_get-get_or c.args.printed.now i 0 c.loop-tensor-test.true) c.loop-tensor.invariant
     (c.in_ok-write_tensor.ensures.ok ∙ ap (λ rows. c.loop-tensor.text.items ++ text_of rows) (tensor_rows-of w es t tensor pairs at is))

@@ -1,9 +1,10 @@
-use Rattle.std.proofs.Common.{Option, Some, None, ◌<◌, ◌∷◌, [], arith, sym, ap, ◌∙◌}
-use Rattle.atomic_table.specs.Table.{Me, rest}
+use Rattle.std.proofs.Common.{ℕ, Option, Some, None, ◌<◌, ◌∷◌, [], arith, sym, ap, ◌∙◌, subst}
+use mathlib.Core.Option.{none}
+use Rattle.atomic_table.specs.Table.{Allows, Me, step, rest}
 use Rattle.fiber_latch.specs.declared.rule.SlotValue.{SlotValue}
 use Rattle.fiber_latch.specs.declared.view.View.{View}
-use Rattle.fiber_latch.specs.Rule.{Good}
-use Rattle.fiber_latch.specs.Steps.{top_session}
+use Rattle.fiber_latch.specs.Rule.{Good, KeepsRule}
+use Rattle.fiber_latch.specs.Steps.{ReturnsLatch, top_session}
 use Rattle.fiber_latch.specs.Conditions.{config_of}
 use Rattle.fiber_latch.proofs.ReleaseKind.{release_moves}
 use Rattle.fiber_latch.proofs.WholeGives.{give_moves-after_release, give-view}
@@ -39,7 +40,10 @@ swap-requires g c =
     let latch : c.args.latch < c.args.top.now.table_id.words = let w = t.sized.words in let x = c.requires.latch in omega arith in (
       l.same.table ∙ s.0 ∙ t.same,
       latch,
-      allows (Good g.C.Keep.content g.C.Keep.sound (config_of key)) (config_of key)
+      subst (λ (n : ℕ). Allows (KeepsRule (config_of key) (Good g.C.Keep.content g.C.Keep.sound (config_of key))) c.args.top.now.table_id.slots
+          c.put_value.new.token.id c.put_value.new.token.me c.args.latch (λ _. n) (ReturnsLatch (step c.args.top.now.table_id.slots c.args.latch n 0 none)
+          c.put_value.new.token.me)) (omega arith)
+          (allows (Good g.C.Keep.content g.C.Keep.sound (config_of key)) (config_of key)
           (give_moves-after_release g.C.Keep.content g.C.Keep.sound (config_of key) c.args.top.now.table_id.slots c.put_value.new.token.id c.args.latch
           token.me.0 token.me.1 c.put_value.new.token.me
           (record { kept = c.args.kept; pass = c.into_badge-pass.result })
@@ -48,7 +52,7 @@ swap-requires g c =
             (c.args.latch, Some (record { kept = c.args.kept; pass = c.into_badge-pass.result })) ∷ rest m.1,
           )) s.2)
           c.requires.knows.config r (b.2 ∙ ap (λ (m : Me (Option (SlotValue g.row.C.Denot)) View). m.0 ∷ []) s.4) (b.0 ∙ s.3 ∙ t.same
-          ∙ sym c.requires.knows.name)),
+          ∙ sym c.requires.knows.name))),
     )
 
 pub returns-clause-me : goal.returns-clause-me

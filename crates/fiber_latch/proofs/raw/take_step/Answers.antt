@@ -1,5 +1,9 @@
-use Rattle.std.proofs.Common.{◌≤◌, arith, subst}
-use Rattle.fiber_latch.specs.Rule.{Good, GoodAt}
+use Rattle.std.proofs.Common.{ℕ, ◌≤◌, eqb, arith, subst}
+use mathlib.Core.Option.{none}
+use prog.Atomic.{either}
+use Rattle.atomic_table.specs.Table.{Allows, step}
+use Rattle.fiber_latch.specs.Rule.{Good, GoodAt, KeepsRule}
+use Rattle.fiber_latch.specs.Steps.{TriesLatch}
 use Rattle.fiber_latch.specs.Conditions.{config_of}
 use Rattle.fiber_latch.proofs.KindsLemmas.{allows}
 use Rattle.fiber_latch.proofs.TakeKind.{take_moves}
@@ -14,7 +18,10 @@ compare_exchange-requires g c =
     let inside : c.args.latch ≤ key.end = subst (λ z. c.args.latch ≤ z.end) c.requires.config r.inside in (
       t.same,
       (let w = t.sized.words in omega arith),
-      allows (Good g.C.Keep.content g.C.Keep.sound (config_of key)) (config_of key)
+      subst (λ (n : ℕ). Allows (KeepsRule (config_of key) (Good g.C.Keep.content g.C.Keep.sound (config_of key))) c.args.top.now.table_id.slots token.id
+          token.me c.args.latch (λ x. either (eqb x 0) n x) (TriesLatch (GoodAt g.C.Keep.content g.C.Keep.sound) (step c.args.top.now.table_id.slots
+          c.args.latch 0 n none) token.me)) (omega arith)
+          (allows (Good g.C.Keep.content g.C.Keep.sound (config_of key)) (config_of key)
           (take_moves (GoodAt g.C.Keep.content g.C.Keep.sound) (config_of key) c.args.top.now.table_id.slots token.id c.args.session c.args.latch token.me.0
-          token.me.1 r.owns r.some_session inside r.above r.idle),
+          token.me.1 r.owns r.some_session inside r.above r.idle)),
     )

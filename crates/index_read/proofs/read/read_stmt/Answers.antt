@@ -1,4 +1,4 @@
-use Rattle.index_read.proofs.Answering.{answer_reads, answer_gives, answer_small}
+use Rattle.index_read.proofs.Answering.{answer_reads, answer_gives, answer_small, answer_value}
 use Rattle.index_read.proofs.read.read_stmt.Goals as goal
 
 pub returns : goal.returns
@@ -9,5 +9,7 @@ returns c =
       reads = reads;
       only = answer_gives text c.statement.result reads;
       fault = c.statement.ensures.fault;
+      within = c.statement.ensures.within;
+      value = answer_value text c.statement.result c.statement.ensures.fault c.statement.ensures.value;
       small = answer_small text c.statement.result c.statement.ensures.fault c.statement.ensures.value reads;
     }

@@ -1,4 +1,4 @@
-use Rattle.std.proofs.Common.{◌≡◌, ◌++◌, length, map}
+use Rattle.std.proofs.Common.{◌≡◌, ◌≤◌, ◌+◌, ◌++◌, length, map}
 use Rattle.std.specs.List.{All}
 use Rattle.dt_text.specs.Spans.{IsSpanOf}
 use Rattle.script_read.specs.Words.{word_at, columned_words, seen_word}
@@ -8,6 +8,7 @@ abbrev pub invariant-loop-span : goal.invariant-loop-span
 invariant-loop-span l = record {
   left : map seen_word l.found.items ++ map (word_at l.line) l.spans ≡ columned_words l.line;
   inside : All (IsSpanOf l.line) l.spans;
+  within : All (λ w. w.column ≤ length l.line + 1) l.found.items;
 }
 
 abbrev pub decreases-loop-span : goal.decreases-loop-span

@@ -1,4 +1,4 @@
-use Rattle.std.proofs.Common.{ℕ, Option, ◌∙◌, ◌-◌, sym, ap, subst}
+use Rattle.std.proofs.Common.{ℕ, Option, ◌∙◌, ◌-◌, sym, ap, subst, arith, replicate}
 use Rattle.atomic_table.specs.Seated.{TableId}
 use Rattle.atomic_table.specs.Table.{Me}
 use Rattle.fiber_latch.specs.declared.rule.SlotValue.{SlotValue}
@@ -6,7 +6,7 @@ use Rattle.fiber_latch.specs.declared.view.TableConfig.{TableConfig}
 use Rattle.fiber_latch.specs.declared.view.View.{View}
 use Rattle.fiber_latch.specs.Conditions.{config_of}
 use Rattle.fiber_latch.specs.Seats.{last_number}
-use Rattle.fiber_latch.specs.Sitting.{IsSeat}
+use Rattle.fiber_latch.specs.Sitting.{IsSeat, HasNumbers}
 use Rattle.fiber_latch.proofs.SittingLemmas.{first_sits}
 use Rattle.fiber_latch.proofs.LastNumbers.{zeros_at}
 use Rattle.fiber_latch.proofs.latches.Latches.open.Goals as goal
@@ -17,7 +17,8 @@ invariant_of-seat g c =
     let t = c.in_ok-table.table.shared in
     let me = c.in_ok-table.token.me in
     let sessions = ap (λ (x : TableConfig). x.sessions) e.sized.1 in
-    let counts = c.requires.counts in (
+    let counts = c.requires.counts in
+    subst (λ (n : ℕ). IsSeat c.in_ok-table.token.table_id 1 n me × HasNumbers 1 n (replicate 16 0) me.0.seen) (omega arith) (
       subst (λ (p : TableId × ℕ). IsSeat p.0 1 p.1 me) (λ i. (sym e.seat.0 i, sessions i)) (first_sits (config_of t.key) t.table_id me e.seat.1),
       record {
         order = counts.0;
