@@ -1,6 +1,6 @@
 -- What is known of what was gathered holds with an item more.
 use Rattle.std.proofs.Common.{◌≡◌, ℕ, suc, ◌+◌, ◌<◌, ◌≤◌, true, false, List, [], ◌∷◌, ◌++◌, length, map, refl, ap, sym, ◌∙◌, arith, subst, get_or, set}
-use Rattle.std.specs.Prelude.{◌&&◌, ◌==◌, nat_le, nat_eq, sum_by, All}
+use Rattle.std.specs.Prelude.{◌&&◌, ◌==◌, nat_le, nat_eq, sum_by}
 use Rattle.std.specs.List.{list_all, list_any}
 use Rattle.std.specs.Cmp.Lexicographic.{pointwise}
 use Rattle.std.proofs.lemmas.Bool.Decides.{nat_tests}

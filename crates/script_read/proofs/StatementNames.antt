@@ -1,6 +1,6 @@
 -- Why a statement whose names are names is refused: each name in the refusal is a name.
 use Rattle.std.proofs.Common.{◌≡◌, ℕ, ◌+◌, ◌-◌, ◌<◌, ◌++◌, Bool, true, false, not, List, [], ◌∷◌, map, length, All, Option, Some, None, refl, arith}
-use Rattle.std.specs.Prelude.{⊤, IfSome, find, filter, option_and_then, if◌then◌else◌, ◌==◌, ◌&&◌, is_none}
+use Rattle.std.specs.Prelude.{IfSome, find, option_and_then, if◌then◌else◌, ◌==◌, is_none}
 use Rattle.std.specs.List.{list_all, flat_map, enumerate_from}
 use Rattle.std.specs.Option.{option_map}
 use Rattle.std.proofs.lemmas.Bool.Decides.{nat_tests}

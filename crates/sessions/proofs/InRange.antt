@@ -1,5 +1,5 @@
 -- Contents that are 0 outside the dimensions of their tensors, and valid lines and calls that keep them so.
-use Rattle.std.proofs.Common.{◌≡◌, ℕ, ◌+◌, ◌%◌, ◌^◌, Bool, true, false, List, [], ◌∷◌, refl, ap, sym, ◌∙◌, subst}
+use Rattle.std.proofs.Common.{◌≡◌, ℕ, ◌+◌, ◌%◌, ◌^◌, Bool, true, false, List, [], ◌∷◌, refl, subst}
 use Rattle.std.specs.Prelude.{◌&&◌, nat_le, nat_lt, if◌then◌else◌, fold, length}
 use Rattle.std.specs.List.{list_all, enumerate_from}
 use Rattle.dt_model.specs.declared.calls.Call.{Call}
