@@ -110,7 +110,7 @@ class Run:
         self.tensors, self.cells = {}, {}
         self.prints, self.sessions = [], []
         self.loaded = self.updates = self.script_bytes = 0
-        self.verdicts, self.history = [], []
+        self.verdicts = []
 
     def fetch(self, name):
         """The bytes of a file."""
@@ -122,21 +122,29 @@ class Run:
             raise Refused(name, 0, "limit")
         return text
 
-    def report(self, manifest):
+    def report(self, manifest, history=None):
+        """The report of the calls in the order of this history, which is a list of turns; else session by session."""
         items = list(self.read_manifest(manifest))
         for item in items:
             self.prepare(manifest, *item)
+        history = self.turns() if history is None else history
+        rows = {turn: self.answered(*turn) for turn in history}
         text = []
         for session, verdicts in enumerate(self.verdicts, 1):
             text.append(f"session {session}")
             for number, verdict in enumerate(verdicts, 1):
-                text += self.answered(session, number, verdict)
-        text.append(f"history {len(self.history)}")
-        text += [f"{session} {number}" for session, number in self.history]
+                unmade = f"refused {verdict}" if isinstance(verdict, str) else "no memory"
+                text += rows.get((session, number), [f"{number} {unmade}"])
+        text.append(f"history {len(history)}")
+        text += [f"{session} {number}" for session, number in history]
         for name in self.prints:
-            rows = listed(self.cells[name])
-            text += [f"tensor {name.decode()} {len(rows)}", *rows]
+            nonzeros = listed(self.cells[name])
+            text += [f"tensor {name.decode()} {len(nonzeros)}", *nonzeros]
         return "".join(f"{row}\n" for row in text).encode()
+
+    def turns(self):
+        """The turns of all accepted calls, session by session."""
+        return [(session, number) for session, verdicts in enumerate(self.verdicts, 1) for number, it in enumerate(verdicts, 1) if not isinstance(it, str)]
 
     # ---- the manifest, first pass
 
@@ -276,11 +284,9 @@ class Run:
                 raise LineRefused(f"range {name.decode()} {mode} {dim}")
         return tuple(at)
 
-    def answered(self, session, number, verdict):
-        """Makes a call, and gives the rows of the report that answer it."""
-        if isinstance(verdict, str):
-            return [f"{number} refused {verdict}"]
-        self.history.append((session, number))
+    def answered(self, session, number):
+        """Makes the call of a turn, and gives the rows of the report that answer it."""
+        verdict = self.verdicts[session - 1][number - 1]
         if verdict[0] == "query":
             rows = listed(answer(verdict[1], self.tensors, self.cells))
             return [f"{number} result {len(rows)}", *rows]

@@ -38,23 +38,12 @@ fn updates_need(decls: &Decls, updates: &[Update], latch: u32) -> bool
     false
 }
 
-/// The number of the tensor with this name.
-fn place_of(decls: &Decls, name: &Name) -> Option<usize>
-    ensures value { result ≡ tensor_named decls.now name.now }
-{
-    decls
-        .tensors
-        .as_slice()
-        .iter()
-        .position(|tensor| tensor.name.bytes() == name.bytes())
-}
-
 /// Whether the tensor with this name has a latch.
 fn tensor_has(decls: &Decls, name: &Name, latch: u32) -> bool
     requires decls { IsTrue (decls_are_valid decls.now) }
     ensures value { result ≡ is_latch_of decls.now latch (tensor_named decls.now name.now) }
 {
-    match place_of(decls, name) {
+    match decls.find_tensor(name) {
         None => false,
         Some(place) => {
             let tensors = decls.tensors.as_slice();

@@ -1,13 +1,15 @@
 //! Node schemas and tensors, as they are declared.
-ghost use Rattle.std.specs.Prelude.{◌≡◌, [], ◌∷◌};
+ghost use Rattle.std.specs.Prelude.{◌≡◌, [], ◌∷◌, ◌<◌, length, IfOk, IfSome};
 ghost use Rattle.dt_model.specs.declared.declared_tensors.Links.TheVariants.{Flat};
 ghost use Rattle.dt_model.specs.Flat.{flat_name, flat_schema};
+ghost use Rattle.dt_model.specs.Tensors.{tensor_named};
 
 use crate::limits::{FLAT_RUN, MOST_KINDS, MOST_ORDER};
-use crate::lists::List;
+use crate::lists::{List, NoMemory};
 use crate::names::Name;
 use crate::places::Coords;
 use arrayvec::ArrayVec;
+use std::alloc::Global;
 
 /// The links of a node of some kind.
 #[derive(Debug, Drop, PartialEq, Eq)]
@@ -20,6 +22,23 @@ pub enum Links {
     Ends { pre: Name, post: Name },
     /// No children, or one more than elements, of the node's own kind, walked between the elements.
     Woven,
+}
+
+impl Links {
+    /// Equal links. It takes no memory.
+    pub fn copy(&self) -> Links
+        ensures value { result ≡ self.now }
+    {
+        match self {
+            Links::Flat => Links::Flat,
+            Links::Post(post) => Links::Post(post.copy()),
+            Links::Ends { pre, post } => Links::Ends {
+                pre: pre.copy(),
+                post: post.copy(),
+            },
+            Links::Woven => Links::Woven,
+        }
+    }
 }
 
 /// A kind of node, whose run has `lo` to `hi` elements.
@@ -46,6 +65,20 @@ impl Default for Kind {
             lo: 1,
             hi: 1,
             links: Links::Flat,
+        }
+    }
+}
+
+impl Kind {
+    /// An equal kind. It takes no memory.
+    pub fn copy(&self) -> Kind
+        ensures value { result ≡ self.now }
+    {
+        Kind {
+            name: self.name.copy(),
+            lo: self.lo,
+            hi: self.hi,
+            links: self.links.copy(),
         }
     }
 }
@@ -80,6 +113,21 @@ impl Schema {
             root: flat_name(),
         }
     }
+
+    /// An equal schema. It takes no memory.
+    pub fn copy(&self) -> Schema
+        ensures value { result ≡ self.now }
+    {
+        let mut kinds = ArrayVec::new();
+        for kind in self.kinds.as_slice() {
+            kinds.push(kind.copy());
+        }
+        Schema {
+            name: self.name.copy(),
+            kinds,
+            root: self.root.copy(),
+        }
+    }
 }
 
 /// The name `flat`.
@@ -102,6 +150,24 @@ pub struct TensorDecl {
     pub latches: u32,
 }
 
+impl TensorDecl {
+    /// An equal declaration. It takes no memory.
+    pub fn copy(&self) -> TensorDecl
+        ensures value { result ≡ self.now }
+    {
+        let mut formats = ArrayVec::new();
+        for format in self.formats.as_slice() {
+            formats.push(*format);
+        }
+        TensorDecl {
+            name: self.name.copy(),
+            dims: self.dims.copy(),
+            formats,
+            latches: self.latches,
+        }
+    }
+}
+
 /// Schemas by number. In valid declarations number 0 is `flat`.
 pub type Schemas = List<Schema>;
 
@@ -115,4 +181,32 @@ pub struct Decls {
     pub schemas: Schemas,
     /// The tensors.
     pub tensors: Tensors,
+}
+
+impl Decls {
+    /// The number of the tensor with this name, if there is one. It takes time by the number of tensors.
+    pub fn find_tensor(&self, name: &Name) -> Option<usize>
+        ensures value { result ≡ tensor_named self.now name.now }
+        ensures below { IfSome result (λ t. t < length self.now.tensors) }
+    {
+        self.tensors
+            .as_slice()
+            .iter()
+            .position(|tensor| tensor.name.bytes() == name.bytes())
+    }
+
+    /// Equal declarations.
+    pub fn copy(&self, alloc: Global) -> Result<Decls, NoMemory>
+        ensures value { IfOk result (λ d. d ≡ self.now) }
+    {
+        let mut schemas = List::new(alloc);
+        for schema in self.schemas.as_slice() {
+            schemas.push(schema.copy())?;
+        }
+        let mut tensors = List::new(alloc);
+        for tensor in self.tensors.as_slice() {
+            tensors.push(tensor.copy())?;
+        }
+        Ok(Decls { schemas, tensors })
+    }
 }

@@ -92,6 +92,18 @@ fn last_coordinate_is_in_fiber_63(rt: HostRuntime) -> Result<(), Fail> {
     Ok(())
 }
 
+#[test]
+fn a_tensor_is_found_by_its_name(rt: HostRuntime) -> Result<(), Fail> {
+    let (Some(name), Some(other)) = (Name::new(b"T"), Name::new(b"U")) else {
+        return Err(Fail::from("not a name"));
+    };
+    let decls = vector(rt.alloc(), name.copy(), 64)?;
+    assert_eq!(rt; decls.find_tensor(&name), Some(0));
+    assert_eq!(rt; decls.find_tensor(&other), None);
+    assert!(rt; decls.copy(rt.alloc())? == decls);
+    Ok(())
+}
+
 fn bytes_at_three<L: Ledger>(steps: &Steps<L>) -> usize
     requires three { steps.now ≡ 3 }
 {

@@ -54,17 +54,6 @@ fn flat_formats(dims: &Coords) -> ArrayVec<u32, MOST_ORDER>
     formats
 }
 
-/// The number of the tensor with this name, if there is one. It takes time by the number of tensors.
-fn find_tensor(decls: &Decls, name: &Name) -> Option<usize>
-    ensures value { result ≡ tensor_named decls.now name.now }
-    ensures below { IfSome result (λ t. t < length decls.now.tensors) }
-{
-    let tensors = decls.tensors.as_slice();
-    tensors
-        .iter()
-        .position(|tensor| tensor.name.bytes() == name.bytes())
-}
-
 /// How many lines tensors have together.
 fn lines_in(base: &[Pairs]) -> u32
     requires few { lines_in base.now ≤ MOST_LINES }
@@ -180,7 +169,7 @@ impl Gathering {
         requires few { length self.now.tensors ≤ MOST_TENSORS }
         ensures value { result ≡ tensor_number (decls_of self.now) name.now }
     {
-        match find_tensor(&self.decls, name) {
+        match self.decls.find_tensor(name) {
             Some(number) => number as u32,
             None => 0,
         }

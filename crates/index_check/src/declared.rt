@@ -6,29 +6,18 @@ ghost use Rattle.dt_model.specs.Refusals.{order_named};
 
 use dt_model::{Coords, Decls, Name};
 
-/// The number of the tensor with this name.
-fn tensor_named(decls: &Decls, name: &Name) -> Option<usize>
-    ensures value { result ≡ tensor_named decls.now name.now }
-{
-    decls
-        .tensors
-        .as_slice()
-        .iter()
-        .position(|tensor| tensor.name.bytes() == name.bytes())
-}
-
 /// Whether a tensor has this name.
 pub fn is_declared(decls: &Decls, name: &Name) -> bool
     ensures value { result ≡ not (is_none (tensor_named decls.now name.now)) }
 {
-    tensor_named(decls, name).is_some()
+    decls.find_tensor(name).is_some()
 }
 
 /// The dimensions of the tensor with this name, if it is declared.
 pub fn dims_named<'a>(decls: &'a Decls, name: &Name) -> Option<&'a Coords>
     ensures value { option_copied result ≡ option_map (dims_of decls.now) (tensor_named decls.now name.now) }
 {
-    match tensor_named(decls, name) {
+    match decls.find_tensor(name) {
         None => None,
         Some(number) => match decls.tensors.get(number) {
             None => None,

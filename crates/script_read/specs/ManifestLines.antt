@@ -1,6 +1,7 @@
 -- The forms of a manifest's lines.
 use Rattle.std.specs.Prelude.{ℕ, ◌-◌, ◌^◌, Bool, List, [], ◌∷◌, Option, Some, None, option_map, option_and_then, ◌&&◌, if◌then◌else◌, nat_le, codes, is_some}
 use Rattle.std.specs.List.{list_all}
+use Rattle.dt_model.specs.declared.limits.TheConstants.{MOST_TENSOR_LATCHES}
 use Rattle.dt_model.specs.Names.{is_name}
 use Rattle.dt_model.specs.Texts.{number_of}
 use Rattle.dt_model.specs.FileNames.{is_file_name}
@@ -40,7 +41,7 @@ ranged name formats (Some dims) (Some latches) = Whole (Tensor name dims (record
 abbrev pub tensor_line : List ℕ → List (List ℕ) → List (List ℕ) → List ℕ → Option ItemLine
 tensor_line name dims formats latches = option_and_then (λ n. option_and_then (λ fs.
     if list_all is_index dims && is_index latches
-    then Some (ranged n fs (every (number_up_to (2 ^ 32 - 1)) dims) (number_up_to 256 latches)) else None)
+    then Some (ranged n fs (every (number_up_to (2 ^ 32 - 1)) dims) (number_up_to MOST_TENSOR_LATCHES latches)) else None)
     (every name_in formats)) (name_in name)
 
 -- a line that begins with `tensor`, has `as` before the formats and `latches` before their number

@@ -2,6 +2,7 @@
 use Rattle.std.specs.Prelude.{ℕ, ◌+◌, Bool, true, false, not, List, [], ◌∷◌, ◌++◌, fold, ok_or, Result, Ok, Err, ◌==◌, ◌&&◌, nat_le, length, nat_eq}
 use Rattle.std.specs.List.{list_any}
 use Rattle.std.specs.Cmp.Lexicographic.{pointwise}
+use Rattle.dt_model.specs.declared.limits.TheConstants.{MOST_LATCHES, MOST_PRINTS, MOST_SESSIONS, MOST_TENSORS}
 use Rattle.dt_model.specs.Texts.{words_of}
 use Rattle.dt_text.specs.Content.{content_lines, is_within_limit}
 use Rattle.tns_io.specs.declared.faults.FileCause.{FileCause}
@@ -68,9 +69,9 @@ abbrev pub in_range : ItemLine → Result Item FileCause
 in_range (Whole item) = Ok item
 in_range (OutOfRange name) = Err because.Range
 
--- whether there are at most 32 tensors, 16 sessions, 64 print lines, and 1,024 latches in all
+-- whether the limits on tensors, sessions and print lines are met, and that on the latches of all tensors together
 abbrev pub is_within_limits : Declared → Bool
-is_within_limits d = nat_le (length d.tensors) 32 && nat_le d.sessions 16 && nat_le d.prints 64 && nat_le d.latches 1024
+is_within_limits d = nat_le (length d.tensors) MOST_TENSORS && nat_le d.sessions MOST_SESSIONS && nat_le d.prints MOST_PRINTS && nat_le d.latches MOST_LATCHES
 
 -- the item of a line that has a form, after what earlier lines declare; or its first fault
 abbrev pub item_in_turn : Declared → ItemLine → Result Item FileCause

@@ -3,7 +3,7 @@ ghost use Rattle.std.specs.Prelude.{◌≡◌, ◌≤◌, ◌^◌, ◌-◌, ◌+
 ghost use Rattle.std.specs.List.{list_all};
 ghost use Rattle.std.specs.Option.{option_map};
 ghost use Rattle.dt_model.specs.Texts.{number_of};
-ghost use Rattle.dt_model.specs.declared.limits.TheConstants.{MOST_ORDER};
+ghost use Rattle.dt_model.specs.declared.limits.TheConstants.{MOST_ORDER, MOST_TENSOR_LATCHES};
 ghost use Rattle.script_read.specs.Words.{word_bytes};
 ghost use Rattle.script_read.specs.Readings.{every};
 ghost use Rattle.script_read.specs.ManifestLines.{is_index, number_up_to, name_in, file_in, ranged, tensor_line, tensor_words, two_words, three_words, item_line};
@@ -102,7 +102,7 @@ fn ranged(
     latches: &[u8],
 ) -> ItemLine
     requires few { length dims.now ≤ MOST_ORDER }
-    ensures value { result ≡ ranged name formats.items (every (number_up_to (2 ^ 32 - 1)) (map word_bytes dims.now)) (number_up_to 256 latches.now) }
+    ensures value { result ≡ ranged name formats.items (every (number_up_to (2 ^ 32 - 1)) (map word_bytes dims.now)) (number_up_to MOST_TENSOR_LATCHES latches.now) }
 {
     match (read_dims(dims), number_up_to(latches, MOST_TENSOR_LATCHES)) {
         (Some(dims), Some(latches)) => ItemLine::Whole(Item::Tensor {

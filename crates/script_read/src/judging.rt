@@ -14,17 +14,6 @@ use dt_model::{
 use index_check::{CheckFault, check_stmt};
 use std::alloc::Global;
 
-/// The number of the tensor with this name. It takes time by the number of tensors.
-fn find_tensor(decls: &Decls, name: &Name) -> Option<usize>
-    ensures value { result ≡ tensor_named decls.now name.now }
-    ensures below { IfSome result (λ t. t < length decls.now.tensors) }
-{
-    let tensors = decls.tensors.as_slice();
-    tensors
-        .iter()
-        .position(|tensor| tensor.name.bytes() == name.bytes())
-}
-
 /// The dimensions of the tensor with this number.
 fn dims_of(decls: &Decls, tensor: usize) -> &[u32]
     ensures value { result.now ≡ dims_of decls.now tensor }
@@ -119,7 +108,7 @@ fn judge_cell(
     requires countable { length coordinates.now < 2 ^ 32 }
     ensures judged { IsFirstFault (cell_fault decls.now name.now coordinates.now) (cell_of decls.now name.now coordinates.now) result }
 {
-    let Some(tensor) = find_tensor(decls, name) else {
+    let Some(tensor) = decls.find_tensor(name) else {
         return Err(Refusal::Name { name: name.copy() });
     };
     match judge_coordinates(name, dims_of(decls, tensor), coordinates) {

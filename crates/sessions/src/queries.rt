@@ -14,17 +14,6 @@ use dt_model::{Decls, Expr, Name, NoMemory, Nonzeros, Stmt};
 use slow_eval::{Tables, evaluate};
 use std::alloc::Global;
 
-/// The number of the tensor with this name. It takes time by the number of tensors.
-fn find_tensor(decls: &Decls, name: &Name) -> Option<usize>
-    ensures value { result ≡ tensor_named decls.now name.now }
-    ensures below { IfSome result (λ t. t < length decls.now.tensors) }
-{
-    let tensors = decls.tensors.as_slice();
-    tensors
-        .iter()
-        .position(|tensor| tensor.name.bytes() == name.bytes())
-}
-
 /// The nonzeros of the tensor with this number, ascending by coordinates; none where there is no such
 /// tensor. It takes time by the number of the tensor's cells.
 pub fn nonzeros_of(alloc: Global, tensors: &[CellList], tensor: u32) -> Result<Nonzeros, NoMemory>
@@ -70,7 +59,7 @@ fn add_named(
     ensures has { OnOk result (HasTable decls.now tables.new.entries name.now) }
     ensures kept { OnOk result (KeepsTables tables.old.entries tables.new.entries) }
 {
-    match find_tensor(decls, name) {
+    match decls.find_tensor(name) {
         Some(tensor) => add_table(alloc, tensors, tensor as u32, tables),
         None => Ok(()),
     }
