@@ -13,6 +13,7 @@ use Rattle.index_read.specs.declared.scan.Scan.{Scan}
 use Rattle.index_read.specs.declared.scan.Fault.{Fault}
 use Rattle.index_read.specs.declared.scan.Fault.TheVariants as because
 use Rattle.index_read.specs.Roles.{role_of}
+use Rattle.index_read.specs.Excess.{depth_with}
 use Rattle.index_read.specs.Scans.{step, step_as, in_limits, count_role, with_listed, with_variable}
 use Rattle.index_read.specs.Grammar.{Factor, Number, Access, Parens, Factors, Left}
 use Rattle.index_read.proofs.Machine.{Sum, Before, before, State, S0, S1, S2, S2m, S3, S4, S5, S6, S7, S8, S8m, S9, S10, closed, after, bare, leave, next}
@@ -48,12 +49,6 @@ depth (S8 l o p t) = length o
 depth (S8m l o p t v vs) = length o
 depth (S9 l o p t v vs) = length o
 depth (S10 l o s fs) = length o
-
--- the open parentheses behind a role
-abbrev pub depth_with : Role → ℕ → ℕ
-depth_with the.Group n = n + 1
-depth_with the.EndGroup n = n - 1
-depth_with role n = n
 
 -- a role and a step that go together
 abbrev pub Same : ℕ → Option (Role × Place) → Option State → Type 0

@@ -28,7 +28,8 @@ use Rattle.index_read.specs.Faults.{fault_from, fault_or, is_end, may_end, first
 use Rattle.index_read.specs.Building.{with_role, read_from, read_or, read_of, empty_tree, stmt_of, expr_of, place_of}
 use Rattle.index_read.specs.Readings.{tokens_in}
 use Rattle.index_read.specs.Grammar.{stmt_tokens}
-use Rattle.index_read.specs.Meaning.{with_name, distinct, meaning, StmtText, terms_expr, vars_of, left_names, left_name}
+use Rattle.index_read.specs.Excess.{with_name, distinct, variable_of}
+use Rattle.index_read.specs.Meaning.{meaning, StmtText, terms_expr, vars_of, left_names, left_name}
 use Rattle.index_read.proofs.Machine.{State, S0, S1, S2, S2m, S3, S4, S5, S6, S7, S8, S8m, S9, S10, next, run, closed}
 use Rattle.index_read.proofs.Machine.{sum_of, last_of}
 use Rattle.index_read.proofs.Complete.{stmt_run, closed-same}
@@ -42,12 +43,6 @@ use Rattle.index_read.proofs.Fits.{Fits, Builds, builds, expr_of-closed}
 
 -- ---- a step apart
 
--- the variable that a role adds
-abbrev pub name_of : Role → List (List ℕ)
-name_of (the.LeftVariable name) = name ∷ []
-name_of (the.Variable name) = name ∷ []
-name_of role = []
-
 some_is : {A : Type 0} (x y : A) → Some x ≡ Some y → x ≡ y
 some_is x y e = cc
 
@@ -55,10 +50,10 @@ pair_is : (x y : Scan × Role) → ◌≡◌ {A = Result (Scan × Role) Fault} (
 pair_is x y e = cc
 
 -- what a step that is made says
-record Made (s : Scan) (q : Option (Role × Place)) (r : Scan) (role : Role) : Type 0 where
-  to : Place
-  role_is : q ≡ Some (role, to)
-  counts : count_role role (record s { place = to }) ≡ Some r
+pub record Made (s : Scan) (q : Option (Role × Place)) (r : Scan) (role : Role) : Type 0 where
+  pub to : Place
+  pub role_is : q ≡ Some (role, to)
+  pub counts : count_role role (record s { place = to }) ≡ Some r
 
 made_by : (s r : Scan) (p : Role × Place) (role : Role) (o : Option Scan) → count_role p.0 (record s { place = p.1 }) ≡ o → in_limits p.0 o ≡ Ok (r, role)
     → Made s (Some p) r role
@@ -100,8 +95,8 @@ variable_vars s r name true e = with_listed_vars s r name (with_variable s.vars.
 variable_vars s r name false e = absurd (cc)
 
 -- a role adds its variable
-count_role-vars : (role : Role) (s r : Scan) (q : Place) → count_role role (record s { place = q }) ≡ Some r
-    → r.vars.items ≡ fold with_name s.vars.items (name_of role)
+pub count_role-vars : (role : Role) (s r : Scan) (q : Place) → count_role role (record s { place = q }) ≡ Some r
+    → r.vars.items ≡ fold with_name s.vars.items (variable_of role)
 count_role-vars (the.Tensor name) s r q e = cond_vars (nat_lt s.accesses 12) _ r s.vars.items refl e
 count_role-vars (the.Literal None) s r q e = absurd (cc)
 count_role-vars (the.Literal (Some n)) s r q e = cond_vars (nat_lt s.literals 12) _ r s.vars.items refl e
@@ -112,11 +107,11 @@ count_role-vars (the.Variable name) s r q e = variable_vars (record s { place = 
 count_role-vars role s r q e = vars_kept s r q e
 
 -- the table's role adds the grammar's variable
-close_names : (b : Bool) → IfSome {T = Role × Place} (cond b (Some (the.EndGroup, at.After)) None) (λ q. name_of q.0 ≡ [])
+close_names : (b : Bool) → IfSome {T = Role × Place} (cond b (Some (the.EndGroup, at.After)) None) (λ q. variable_of q.0 ≡ [])
 close_names true = refl
 close_names false = tt
 
-role_names : (u : State) (k : Token) → IfSome (role_of (place u) k (depth u)) (λ q. name_of q.0 ≡ name_at u k)
+role_names : (u : State) (k : Token) → IfSome (role_of (place u) k (depth u)) (λ q. variable_of q.0 ≡ name_at u k)
 role_names S0 (a.Word n) = refl
 role_names (S1 n) a.Open = refl
 role_names (S1 n) a.Equals = refl
@@ -154,16 +149,17 @@ record Stands (s : Scan) (u : State) : Type 0 where
   literals_are : s.literals ≡ weight u 0 1
   within_limits : IsWithin s
 
-made_at : (s r : Scan) (u : State) (k : Token) (role : Role) → s.place ≡ place u → s.depth ≡ depth u → step s k ≡ Ok (r, role)
+-- what a step that is made at a state says
+pub made_at : (s r : Scan) (u : State) (k : Token) (role : Role) → s.place ≡ place u → s.depth ≡ depth u → step s k ≡ Ok (r, role)
     → Made s (role_of (place u) k (depth u)) r role
 made_at s r u k role p d e =
     subst (λ n. Made s (role_of (place u) k n) r role) d (subst (λ q. Made s (role_of q k s.depth) r role) p (made s r (role_of s.place k s.depth) role e))
 
 -- the variables of a role and of a token
-made_names : (s r : Scan) (u : State) (k : Token) (role : Role) → Made s (role_of (place u) k (depth u)) r role → name_of role ≡ name_at u k
+made_names : (s r : Scan) (u : State) (k : Token) (role : Role) → Made s (role_of (place u) k (depth u)) r role → variable_of role ≡ name_at u k
 made_names s r u k role m =
-    let it : IfSome {T = Role × Place} (Some (role, m.to)) (λ q. name_of q.0
-    ≡ name_at u k) = subst (λ q. IfSome q (λ q. name_of q.0 ≡ name_at u k)) m.role_is (role_names u k) in it
+    let it : IfSome {T = Role × Place} (Some (role, m.to)) (λ q. variable_of q.0
+    ≡ name_at u k) = subst (λ q. IfSome q (λ q. variable_of q.0 ≡ name_at u k)) m.role_is (role_names u k) in it
 
 made_vars : (s r : Scan) (u v : State) (k : Token) (role : Role) → Stands s u → Made s (role_of (place u) k (depth u)) r role → next u k ≡ Some v
     → r.vars.items ≡ distinct (names v)
@@ -205,7 +201,7 @@ fold_begun (n ∷ more) xs = begun-trans xs (with_name xs n) (fold with_name (wi
 step_begun : (s r : Scan) (k : Token) (role : Role) → step s k ≡ Ok (r, role) → Begun s.vars.items r.vars.items
 step_begun s r k role e =
     let m = made s r (role_of s.place k s.depth) role e in
-    subst (λ vs. Begun s.vars.items vs) (sym (count_role-vars role s r m.to m.counts)) (fold_begun (name_of role) s.vars.items)
+    subst (λ vs. Begun s.vars.items vs) (sym (count_role-vars role s r m.to m.counts)) (fold_begun (variable_of role) s.vars.items)
 
 begun_by : (text : List ℕ) (s : Scan) (t : Tree) (k : Token) (xs : List Span) (q : Result (Scan × Role) Fault) → step s k ≡ q
     → ((r : Scan) (role : Role) → Begun r.vars.items (read_from text r (with_role t role r.vars.items) xs).0.vars.items)

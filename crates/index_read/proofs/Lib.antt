@@ -6,6 +6,8 @@ pub mod Sound
 pub mod Complete
 pub mod Runs
 pub mod Agree
+pub mod RolesRead
+pub mod ExcessLemmas
 pub mod Telling
 pub mod Names
 pub mod Places
@@ -14,7 +16,9 @@ pub mod Built
 pub mod Smallness
 pub mod Counts
 pub mod Limits
+pub mod Excesses
 pub mod Answering
+pub mod MeaningLemmas
 pub mod NamedStatements
 pub mod CanonicalLemmas
 pub mod CanonicalTrees

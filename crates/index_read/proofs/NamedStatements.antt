@@ -1,6 +1,6 @@
 -- The names in a statement that is read are names.
-use Rattle.std.proofs.Common.{◌≡◌, ℕ, ◌++◌, Bool, true, false, cond, List, [], ◌∷◌, fold, refl, ap, sym, ◌∙◌, subst, Option, Some, None, Ok, Err}
-use Rattle.std.specs.Prelude.{⊤, MatchResult, ◌&&◌}
+use Rattle.std.proofs.Common.{◌≡◌, ℕ, ◌++◌, Bool, true, false, cond, List, [], ◌∷◌, fold, refl, ap, sym, ◌∙◌, subst, Option, Some, None}
+use Rattle.std.specs.Prelude.{⊤, MatchResult}
 use Rattle.std.specs.List.{list_all}
 use Rattle.dt_model.specs.declared.statements.Stmt.{Stmt}
 use Rattle.dt_model.specs.Names.{is_name}
@@ -8,7 +8,6 @@ use Rattle.dt_model.specs.Statements.{accesses}
 use Rattle.dt_model.specs.Verdicts.{is_small}
 use Rattle.dt_model.proofs.Booleans.{both_true, true_both, list_all-append}
 use Rattle.dt_model.proofs.StatementsLemmas.{accesses-Plus, accesses-Minus, accesses-Times, accesses-Negate}
-use Rattle.index_read.specs.declared.lexer.Token.{Token}
 use Rattle.index_read.specs.declared.lexer.Token.TheVariants as a
 use Rattle.index_read.specs.declared.read.StmtFault.{StmtFault}
 use Rattle.index_read.specs.Scans.{has_name}
@@ -16,7 +15,8 @@ use Rattle.index_read.specs.Building.{stmt_of, read_of}
 use Rattle.index_read.specs.Faults.{first_fault}
 use Rattle.index_read.specs.Grammar.{Factor, Number, Access, Parens, Factors, One, Times, Terms, First, Negated, Plus, Minus, Left, Bare, Listing}
 use Rattle.index_read.specs.Grammar.{list_tokens, factor_tokens, factors_tokens, terms_tokens, left_tokens}
-use Rattle.index_read.specs.Meaning.{factor_expr, factors_expr, terms_expr, factor_names, factors_names, terms_names, left_names, with_name, vars_of, unless_fault, statement_in, StmtText}
+use Rattle.index_read.specs.Meaning.{factor_expr, factors_expr, terms_expr, factor_names, factors_names, terms_names, left_names, vars_of, unless_fault, statement_in, StmtText}
+use Rattle.index_read.specs.Excess.{with_name}
 use Rattle.index_read.proofs.Answering.{small_stmt}
 use Rattle.index_read.proofs.Built.{stmt_text}
 use Rattle.index_read.proofs.GoodTokens.{AreGood, good_head, good_tail, AreGood-front, AreGood-rest, AreGood-tokens_of}

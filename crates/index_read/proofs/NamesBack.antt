@@ -7,7 +7,7 @@ use Rattle.std.proofs.lemmas.List.Folds.{list_any-append}
 use Rattle.dt_model.proofs.Booleans.{both_true}
 use Rattle.index_read.specs.Scans.{has_name}
 use Rattle.index_read.specs.Building.{place_of, place_from}
-use Rattle.index_read.specs.Meaning.{with_name}
+use Rattle.index_read.specs.Excess.{with_name}
 use Rattle.index_read.specs.Canonical.{name_at}
 use Rattle.index_read.proofs.Places.{Begun, itself}
 use Rattle.index_read.proofs.Built.{fold_begun}

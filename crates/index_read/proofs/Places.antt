@@ -8,7 +8,7 @@ use Rattle.std.proofs.lemmas.List.{append_assoc, append-nil, map-append, length-
 use Rattle.std.proofs.lemmas.List.Folds.{list_any-append}
 use Rattle.index_read.specs.Scans.{has_name, with_variable}
 use Rattle.index_read.specs.Building.{place_of, place_from, with_place}
-use Rattle.index_read.specs.Meaning.{with_name}
+use Rattle.index_read.specs.Excess.{with_name}
 
 -- all that a list begins with
 pub record Begun (xs all : List (List ℕ)) : Type 0 where

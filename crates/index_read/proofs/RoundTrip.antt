@@ -18,7 +18,8 @@ use Rattle.index_read.specs.Scans.{at_first, step}
 use Rattle.index_read.specs.Faults.{is_end, fault_from, fault_or, first_fault}
 use Rattle.index_read.specs.Building.{place_of}
 use Rattle.index_read.specs.Grammar.{Terms, Left, Bare, Listing, list_tokens, left_tokens, terms_tokens, stmt_tokens}
-use Rattle.index_read.specs.Meaning.{StmtText, ReadsAs, terms_expr, terms_names, left_names, left_name, distinct, vars_of, meaning}
+use Rattle.index_read.specs.Meaning.{StmtText, ReadsAs, terms_expr, terms_names, left_names, left_name, vars_of, meaning}
+use Rattle.index_read.specs.Excess.{distinct}
 use Rattle.index_read.specs.Readings.{tokens_in}
 use Rattle.index_read.specs.Canonical.{name_at, names_text, expr_text, canonical_text}
 use Rattle.index_read.proofs.TokensLemmas.{tokens_of-blank, tokens_of-word}

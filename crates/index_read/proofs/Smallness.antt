@@ -15,7 +15,8 @@ use Rattle.dt_model.proofs.StatementsLemmas.{accesses-Plus, accesses-Minus, acce
 use Rattle.index_read.specs.Scans.{has_name}
 use Rattle.index_read.specs.Building.{place_of, place_from}
 use Rattle.index_read.specs.Grammar.{Factor, Number, Access, Parens, Factors, One, Times, Terms, First, Negated, Plus, Minus, Left}
-use Rattle.index_read.specs.Meaning.{factor_expr, factors_expr, terms_expr, factor_names, factors_names, terms_names, with_name, distinct, vars_of}
+use Rattle.index_read.specs.Meaning.{factor_expr, factors_expr, terms_expr, factor_names, factors_names, terms_names, vars_of}
+use Rattle.index_read.specs.Excess.{with_name, distinct}
 use Rattle.index_read.specs.Meaning.{left_names, meaning}
 use Rattle.index_read.proofs.Places.{itself, Begun, place_of-kept}
 use Rattle.index_read.proofs.Built.{fold_begun}

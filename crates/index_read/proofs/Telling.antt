@@ -4,7 +4,7 @@ use Rattle.std.proofs.Common.{suc, length, arith}
 use Rattle.std.specs.Prelude.{Result, ◌==◌}
 use Rattle.std.proofs.lemmas.Bool.Decides.{nat_tests}
 use Rattle.std.specs.Option.{option_and_then}
-use Rattle.std.proofs.lemmas.List.{append_assoc, append-nil}
+use Rattle.std.proofs.lemmas.List.{append_assoc, append-nil, length-append, length-map}
 use Rattle.dt_text.specs.declared.spans.Span.{Span}
 use Rattle.dt_text.specs.Spans.{bytes_of}
 use Rattle.dt_text.specs.Lexer.{end_of}
@@ -15,15 +15,24 @@ use Rattle.index_read.specs.declared.scan.Fault.{Fault}
 use Rattle.index_read.specs.declared.scan.Fault.TheVariants as because
 use Rattle.index_read.specs.declared.read.StmtFault.TheVariants.{Form}
 use Rattle.index_read.specs.Tokens.{spans_of, token_of, tokens_of}
-use Rattle.index_read.specs.Scans.{step, at_first}
+use Rattle.index_read.specs.Roles.{role_of}
+use Rattle.index_read.specs.Scans.{step, step_as, in_limits, count_role, at_first}
+use Rattle.index_read.specs.Excess.{BeginsAs}
 use Rattle.index_read.specs.Faults.{fault_from, fault_or, is_end, may_end, first_fault}
 use Rattle.index_read.specs.Grammar.{Left, Terms, stmt_tokens}
-use Rattle.index_read.specs.Readings.{tokens_in, DescribesFault}
+use Rattle.index_read.specs.Readings.{tokens_in, IsLimitFaultAt, DescribesFault}
 use Rattle.index_read.proofs.Machine.{State, S0, S10, next, run, closed, sum_of, last_of}
 use Rattle.index_read.proofs.Complete.{stmt_run}
 use Rattle.index_read.proofs.Runs.{run-append, run-read, done-read, run_begins, stop_begins}
 use Rattle.index_read.proofs.Agree.{place, depth, Agrees, step_agrees}
 use Rattle.index_read.proofs.TokensLemmas.{end_of-spans_of}
+use Rattle.index_read.proofs.RolesRead.{roles}
+use Rattle.index_read.proofs.ExcessLemmas.{has_role, run_begins_as}
+use Rattle.index_read.proofs.Excesses.{HasCounted, HasCounted-more, passes_limit}
+use Rattle.index_read.proofs.Built.{made_at}
+
+some_is : {A : Type 0} (x y : A) → Some x ≡ Some y → x ≡ y
+some_is x y e = cc
 
 true_not_false : (b : Bool) → b ≡ true → b ≡ false → ⊥
 true_not_false true p q = cc
@@ -35,6 +44,8 @@ record Reached (text : List ℕ) (front : List Span) (end : ℕ) (s : Scan) (u :
   place_is : s.place ≡ place u
   depth_is : s.depth ≡ depth u
   end_is : end ≡ end_of 0 front
+  counted : HasCounted s (roles u)
+  as_many : length (roles u) ≡ length front
 
 tokens_in-more : (text : List ℕ) (front : List Span) (x : Span) → tokens_in text (front ++ x ∷ []) ≡ tokens_in text front ++ token_of (bytes_of text x) ∷ []
 tokens_in-more text [] x = refl
@@ -55,15 +66,30 @@ run-more text front x u o h e =
       same None = refl
       same (Some r) = refl
 
-reach-more : (text : List ℕ) (front : List Span) (x : Span) (end : ℕ) (s r : Scan) (u v : State) → Reached text front end s u
-    → next u (token_of (bytes_of text x)) ≡ Some v
+roles-more : (front : List Span) (x : Span) (u v : State) (role : Role) → length (roles u) ≡ length front → roles v ≡ roles u ++ role ∷ []
+    → length (roles v) ≡ length (front ++ x ∷ [])
+roles-more front x u v role l e =
+    let more : length (roles u ++ role ∷ []) ≡ length (roles u) + 1 = length-append (roles u) (role ∷ []) in
+    let longer : length (front ++ x ∷ []) ≡ length front + 1 = length-append front (x ∷ []) in
+    ap length e ∙ more ∙ ap (λ n. n + 1) l ∙ sym longer
+
+reach-more : (text : List ℕ) (front : List Span) (x : Span) (end : ℕ) (s r : Scan) (u v : State) (role : Role) → Reached text front end s u
+    → step s (token_of (bytes_of text x)) ≡ Ok (r, role) → next u (token_of (bytes_of text x)) ≡ Some v
     → r.place ≡ place v → r.depth ≡ depth v → Reached text (front ++ x ∷ []) x.to r v
-reach-more text front x end s r u v h e p d = record {
-  goes = run-more text front x u (Some v) h.goes e;
-  place_is = p;
-  depth_is = d;
-  end_is = sym (end_of-more 0 front x);
-}
+reach-more text front x end s r u v role h c e p d =
+    let k = token_of (bytes_of text x) in
+    let m = made_at s r u k role h.place_is h.depth_is c in
+    let has = has_role u k v e in
+    let same_role : has.role ≡ role = ap (λ z. z.0) (some_is (has.role, has.to) (role, m.to) (sym has.is ∙ m.role_is)) in
+    let reads : roles v ≡ roles u ++ role ∷ [] = has.reads ∙ ap (λ z. roles u ++ z ∷ []) same_role in
+    record {
+      goes = run-more text front x u (Some v) h.goes e;
+      place_is = p;
+      depth_is = d;
+      end_is = sym (end_of-more 0 front x);
+      counted = subst (HasCounted r) (sym reads) (HasCounted-more role s r m.to (roles u) h.counted m.counts);
+      as_many = roles-more front x u v role h.as_many reads;
+    }
 
 -- ---- the end
 
@@ -99,12 +125,41 @@ told_at_end text end s u false h e =
           true_not_false (is_end s) (written_end s u w.left w.right h.place_is h.depth_is where_it_is) e;
     })
 
+limit_none : (role : Role) (o : Option Scan) → in_limits role o ≡ Err because.Limit → o ≡ None
+limit_none role None e = refl
+limit_none role (Some s) e = absurd (cc)
+
+-- a token that a limit forbids
+limit_told : (text : List ℕ) (front : List Span) (x : Span) (xs : List Span) (end : ℕ) (s : Scan) (u v : State) → Reached text front end s u
+    → spans_of text ≡ front ++ x ∷ xs → step s (token_of (bytes_of text x)) ≡ Err because.Limit → next u (token_of (bytes_of text x)) ≡ Some v
+    → IsLimitFaultAt text (x.from + 1)
+limit_told text front x xs end s u v h split c e =
+    let k = token_of (bytes_of text x) in
+    let tokens = tokens_in text (front ++ x ∷ []) in
+    let has = has_role u k v e in
+    let role_is : role_of s.place k s.depth ≡ Some (has.role, has.to) =
+    ap (λ p. role_of p k s.depth) h.place_is ∙ ap (λ n. role_of (place u) k n) h.depth_is ∙ has.is in
+    let none = limit_none has.role (count_role has.role (record s { place = has.to })) (sym (ap (step_as s) role_is) ∙ c) in
+    let many : length (roles v) ≡ length tokens = roles-more front x u v has.role h.as_many has.reads
+    ∙ sym (length-map (front ++ x ∷ []) (λ y. token_of (bytes_of text y))) in
+    record {
+      front = front;
+      token = x;
+      behind = xs;
+      split = split;
+      there = refl;
+      before = roles u;
+      role = has.role;
+      begins = subst (BeginsAs tokens) has.reads (run_begins_as tokens v (run-more text front x u (Some v) h.goes e) many);
+      passes = passes_limit has.role s has.to (roles u) h.counted none;
+    }
+
 -- what one step says, where the rest is told
 told_by : (text : List ℕ) (front : List Span) (x : Span) (xs : List Span) (end : ℕ) (s : Scan) (u : State) (q : Result (Scan × Role) Fault) (o : Option State)
-    → Reached text front end s u → spans_of text ≡ front ++ x ∷ xs → next u (token_of (bytes_of text x)) ≡ o → Agrees q o
-    → ((r : Scan) (v : State) → Reached text (front ++ x ∷ []) x.to r v → DescribesFault text (fault_from text r x.to xs))
+    → Reached text front end s u → spans_of text ≡ front ++ x ∷ xs → step s (token_of (bytes_of text x)) ≡ q → next u (token_of (bytes_of text x)) ≡ o
+    → Agrees q o → ((r : Scan) (v : State) → Reached text (front ++ x ∷ []) x.to r v → DescribesFault text (fault_from text r x.to xs))
     → DescribesFault text (fault_or (x.from + 1) q (λ r. fault_from text r x.to xs))
-told_by text front x xs end s u (Err because.Form) o h split e d more =
+told_by text front x xs end s u (Err because.Form) o h split c e d more =
     inl (record {
       front = front;
       token = x;
@@ -114,18 +169,10 @@ told_by text front x xs end s u (Err because.Form) o h split e d more =
       begins = run_begins (tokens_in text front) u h.goes;
       stops = stop_begins (tokens_in text (front ++ x ∷ [])) (run-more text front x u o h.goes e ∙ d);
     })
-told_by text front x xs end s u (Err because.Limit) None h split e d more = absurd d
-told_by text front x xs end s u (Err because.Limit) (Some v) h split e d more =
-    record {
-      front = front;
-      token = x;
-      behind = xs;
-      split = split;
-      there = refl;
-      begins = run_begins (tokens_in text (front ++ x ∷ [])) v (run-more text front x u (Some v) h.goes e);
-    }
-told_by text front x xs end s u (Ok r) None h split e d more = absurd d
-told_by text front x xs end s u (Ok r) (Some v) h split e d more = more r.0 v (reach-more text front x end s r.0 u v h e d.0 d.1)
+told_by text front x xs end s u (Err because.Limit) None h split c e d more = absurd d
+told_by text front x xs end s u (Err because.Limit) (Some v) h split c e d more = limit_told text front x xs end s u v h split c e
+told_by text front x xs end s u (Ok r) None h split c e d more = absurd d
+told_by text front x xs end s u (Ok r) (Some v) h split c e d more = more r.0 v (reach-more text front x end s r.0 u v r.1 h c e d.0 d.1)
 
 told_from : (xs : List Span) (text : List ℕ) (front : List Span) (end : ℕ) (s : Scan) (u : State) → Reached text front end s u → spans_of text ≡ front ++ xs
     → DescribesFault text (fault_from text s end xs)
@@ -133,9 +180,28 @@ told_from [] text front end s u h split =
     told_at_end text end s u (is_end s) (subst (λ ys. Reached text ys end s u) (sym (split ∙ append-nil front)) h) refl
 told_from (x ∷ xs) text front end s u h split =
     let t = token_of (bytes_of text x) in
-    told_by text front x xs end s u (step s t) (next u t) h split refl (step_agrees s u t h.place_is h.depth_is)
+    told_by text front x xs end s u (step s t) (next u t) h split refl refl (step_agrees s u t h.place_is h.depth_is)
     (λ r v k. told_from xs text (front ++ x ∷ []) x.to r v k (split ∙ sym (append_assoc front (x ∷ []) xs)))
+
+first_reached : (text : List ℕ) → Reached text [] 0 at_first S0
+first_reached text = record {
+  goes = refl;
+  place_is = refl;
+  depth_is = refl;
+  end_is = refl;
+  counted = record {
+    accesses_are = refl;
+    literals_are = refl;
+    depth_is = refl;
+    listed_is = refl;
+    vars_are = refl;
+    listed_few = omega arith;
+    depth_few = omega arith;
+    within = record { accesses_few = omega arith; literals_few = omega arith; vars_few = omega arith };
+  };
+  as_many = refl;
+}
 
 -- the first fault of a text, in the grammar's own words
 pub first_fault_told : (text : List ℕ) → DescribesFault text (first_fault text)
-first_fault_told text = told_from (spans_of text) text [] 0 at_first S0 (record { goes = refl; place_is = refl; depth_is = refl; end_is = refl }) refl
+first_fault_told text = told_from (spans_of text) text [] 0 at_first S0 (first_reached text) refl

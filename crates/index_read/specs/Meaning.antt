@@ -1,10 +1,10 @@
 -- What a statement as it is written means.
-use Rattle.std.specs.Prelude.{ℕ, ◌≡◌, List, [], ◌∷◌, ◌++◌, map, fold, Option, Some, None, Result, Ok, Err, ⊤, ◌⊎◌, unwrap_or, if◌then◌else◌}
+use Rattle.std.specs.Prelude.{ℕ, ◌≡◌, List, [], ◌∷◌, ◌++◌, map, Option, Some, None, Result, Ok, Err, ⊤, ◌⊎◌, unwrap_or}
 use Rattle.dt_model.specs.declared.statements.Expr.{Expr}
 use Rattle.dt_model.specs.declared.statements.Expr.TheViews as join
 use Rattle.dt_model.specs.declared.statements.Expr.TheVariants as leaf
 use Rattle.dt_model.specs.declared.statements.Stmt.{Stmt}
-use Rattle.index_read.specs.Scans.{has_name}
+use Rattle.index_read.specs.Excess.{distinct}
 use Rattle.index_read.specs.Building.{place_of, stmt_of, read_of}
 use Rattle.index_read.specs.Grammar.{Factor, Number, Access, Parens, Factors, One, Times, Terms, First, Negated, Plus, Minus, Left, Bare, Listing, stmt_tokens}
 use Rattle.index_read.specs.declared.read.StmtFault.{StmtFault}
@@ -56,14 +56,6 @@ left_names (Listing name v vs) = v ∷ vs
 abbrev pub left_name : Left → List ℕ
 left_name (Bare name) = name
 left_name (Listing name v vs) = name
-
--- each name once, by first appearance
-abbrev pub with_name : List (List ℕ) → List ℕ → List (List ℕ)
-with_name names name = if has_name names name then names else names ++ name ∷ []
-
--- some names, each once
-abbrev pub distinct : List (List ℕ) → List (List ℕ)
-distinct names = fold with_name [] names
 
 -- the variables of a statement
 abbrev pub vars_of : Left → Terms → List (List ℕ)

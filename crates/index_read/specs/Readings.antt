@@ -8,6 +8,8 @@ use Rattle.index_read.specs.declared.read.StmtFault.TheVariants as because
 use Rattle.dt_text.specs.Spans.{end_column}
 use Rattle.index_read.specs.Tokens.{spans_of, token_of, tokens_of}
 use Rattle.index_read.specs.Grammar.{Left, Terms, stmt_tokens, Begins}
+use Rattle.index_read.specs.declared.roles.Role.{Role}
+use Rattle.index_read.specs.Excess.{BeginsAs, PassesLimit}
 
 -- the tokens that some spans name
 abbrev pub tokens_in : List ℕ → List Span → List Token
@@ -35,14 +37,17 @@ pub record IsFormFaultAtEnd (text : List ℕ) (column : ℕ) : Type 0 where
   pub begins : Begins (tokens_of text)
   pub lacks : IsWritten text → ⊥
 
--- a statement may begin so, and a limit is passed
+-- a statement may begin so, and a limit is passed at this token
 pub record IsLimitFaultAt (text : List ℕ) (column : ℕ) : Type 0 where
   pub front : List Span
   pub token : Span
   pub behind : List Span
   pub split : spans_of text ≡ front ++ token ∷ behind
   pub there : column ≡ token.from + 1
-  pub begins : Begins (tokens_in text (front ++ token ∷ []))
+  pub before : List Role
+  pub role : Role
+  pub begins : BeginsAs (tokens_in text (front ++ token ∷ [])) (before ++ role ∷ [])
+  pub passes : PassesLimit before role
 
 -- what a first fault says of a text
 abbrev pub DescribesFault : List ℕ → Option StmtFault → Type 0
