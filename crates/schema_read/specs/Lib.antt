@@ -1,0 +1,9 @@
+pub mod Tokens
+pub mod Grammar
+pub mod Roles
+pub mod Scans
+pub mod Places
+pub mod Building
+pub mod Reading
+pub mod Readings
+pub mod Canonical
