@@ -1,0 +1,4 @@
+pub mod Marks
+pub mod ReachedLemmas
+pub mod NamingLemmas
+pub mod BreachesLemmas

@@ -1,0 +1,4 @@
+pub mod Links
+pub mod Reached
+pub mod Rules
+pub mod Breaches
