@@ -1,0 +1,130 @@
+//! The store of one fiber.
+ghost use Rattle.std.specs.Prelude.{◌≡◌, ◌+◌, ◌<◌, ℕ, List, [], ◌∷◌, All, length, IsTrue, IfOk, OnOk, OnErr};
+ghost use Rattle.commit_core.specs.Cells.{without_zeros};
+ghost use Rattle.dt_model.specs.Contents.{with_update};
+ghost use Rattle.dt_model.specs.Pairs.{IsAscending};
+ghost use Rattle.dt_model.specs.Statements.{all_below, nonzeros};
+ghost use Rattle.dt_model.specs.Tensors.{dims_of, first_latch, latches_of_tensor};
+ghost use Rattle.dt_model.specs.Worlds.{decls_are_valid};
+ghost use Rattle.dt_model.specs.declared.calls.Update.{Update};
+ghost use Rattle.dt_model.specs.declared.declared_tensors.Decls.{Decls};
+ghost use Rattle.fiber_store.specs.Stores.{AreValid, IsInFiber, IsSound, content_of, own, store_content};
+
+use crate::cells::{number_after, number_at, put};
+use crate::fibers::{Fiber, cell_of, keep_own};
+use dt_model::{Cell, Decls, Keep, NoMemory, Nonzeros, PackedPairs, Update, Updates};
+use std::alloc::Global;
+use std::collections::VecDeque;
+use std::marker::Model;
+use std::mem;
+
+/// The cells of one fiber, and copies of the updates that it is due. It has 136 bytes. A cell of
+/// order 1 or 2 takes 16 bytes, of order 3 or 4 24, and of order 5 32; a due update takes 56. Room
+/// grows by doubling, and stays. A cell that was emptied stays in the list with the number 0.
+#[derive(Drop)]
+pub struct FiberStore {
+    alloc: Global,
+    fiber: Fiber,
+    cells: PackedPairs,
+    due: VecDeque<Update>,
+}
+
+impl Model for FiberStore {
+    ghost use Rattle.fiber_store.specs.Fibers.{IsWhole, state_of};
+    ghost use Rattle.fiber_store.specs.Stores.{StoreState};
+
+    ghost Value = { StoreState };
+
+    ghost view = { λ a. state_of a.fiber a.cells.pairs a.due.items };
+
+    ghost invariant = { λ a. IsWhole a.fiber a.cells a.due.items };
+}
+
+impl Keep for FiberStore {
+    ghost use Rattle.fiber_store.specs.Stores.{IsSound, store_content};
+
+    ghost content = { store_content };
+
+    ghost sound = { IsSound };
+}
+
+impl FiberStore {
+    /// The store of a fiber with these cells, whose numbers may be 0. It takes one allocation where
+    /// the pairs are packed by the tensor's order.
+    pub fn open(
+        alloc: Global,
+        decls: &Decls,
+        tensor: u32,
+        fiber: u32,
+        pairs: &Nonzeros,
+    ) -> Result<FiberStore, NoMemory>
+        requires valid { IsTrue (decls_are_valid decls.now) }
+        requires declared { tensor < length decls.now.tensors }
+        requires latched { fiber < latches_of_tensor decls.now tensor }
+        requires cells { All (λ p. IsInFiber decls.now tensor (first_latch decls.now tensor + fiber) p.0) pairs.now }
+        requires ascending { IsAscending pairs.now }
+        ensures sound { IfOk result (IsSound decls.now (first_latch decls.now tensor + fiber)) }
+        ensures content { IfOk result (λ s. store_content s ≡ content_of tensor pairs.now) }
+        ensures due { IfOk result (λ s. s.due ≡ []) }
+    {
+        let fiber = Fiber::of(decls, tensor, fiber);
+        let cells = pairs.packed(alloc, fiber.dims.len())?;
+        Ok(FiberStore {
+            alloc,
+            fiber,
+            cells,
+            due: VecDeque::new(alloc),
+        })
+    }
+
+    /// Keeps copies of the updates whose cells are the store's, at most 64 in a valid batch, with
+    /// room for a new cell each. What was due before is dropped. It takes time by the number of
+    /// updates, and of cells where their room grows.
+    pub fn prepare(&mut self, updates: &Updates) -> Result<(), NoMemory>
+        ensures content { store_content self.new ≡ store_content self.old }
+        ensures sound { (d : Decls) (w : ℕ) → IsSound d w self.old → IsSound d w self.new }
+        ensures due { OnOk result ((d : Decls) (w : ℕ) → IsSound d w self.old → AreValid d updates.now → self.new.due ≡ own d w updates.now) }
+        ensures full { OnErr result (self.new.due ≡ []) }
+    {
+        let mut due = mem::replace(&mut self.due, VecDeque::new(self.alloc));
+        due.clear();
+        keep_own(&self.fiber, updates, &mut due)?;
+        self.cells.reserve(due.len())?;
+        self.due = due;
+        Ok(())
+    }
+
+    /// Makes the update that is due first. It takes no memory, and the time of two binary searches; a
+    /// new cell takes time by the number of cells behind it.
+    pub fn apply(&mut self, update: &Update)
+        requires first { (rest : List Update) × (self.old.due ≡ update.now ∷ rest) }
+        ensures content { store_content self.new ≡ with_update (store_content self.old) update.now }
+        ensures sound { (d : Decls) (w : ℕ) → IsSound d w self.old → IsSound d w self.new }
+        ensures due { (rest : List Update) → self.old.due ≡ update.now ∷ rest → self.new.due ≡ rest }
+    {
+        let number = number_after(&self.cells, update);
+        put(&mut self.cells, &cell_of(update).at, number);
+        self.due.pop_front();
+    }
+
+    /// The number in a cell, 0 where the store has none. It has no cell of another tensor. It takes a
+    /// binary search.
+    pub fn get(&self, cell: &Cell) -> u64
+        ensures value { result ≡ store_content self.now cell.now.tensor cell.now.at }
+    {
+        if cell.tensor == self.fiber.tensor {
+            number_at(&self.cells, &cell.at)
+        } else {
+            0
+        }
+    }
+
+    /// The cells whose number isn't 0, in ascending order. It takes one allocation, and time by the
+    /// number of cells.
+    pub fn pairs(&self) -> Result<Nonzeros, NoMemory>
+        ensures cells { IfOk result (λ pairs. pairs ≡ without_zeros self.now.cells) }
+        ensures value { IfOk result (λ pairs. (d : Decls) (w : ℕ) → IsSound d w self.now → pairs ≡ nonzeros (store_content self.now self.now.tensor) (all_below (dims_of d self.now.tensor))) }
+    {
+        Nonzeros::nonzeros_of(self.alloc, &self.cells)
+    }
+}
