@@ -14,9 +14,11 @@ import sys
 from pathlib import Path
 
 from replay_answers import answer
+from replay_schemas import read_schemas
 from replay_statements import LineRefused, read_statement
+from schema_rules import breach
 
-NOT_BUILT = {"schema", "session", "batch"}
+NOT_BUILT = {"structures", "session", "batch"}
 USAGE = b"usage: dyntensor run MANIFEST | check SCHEMAS | sample N\n"
 MODULUS = 2**64
 FILE_LIMIT = 67_108_864
@@ -25,7 +27,7 @@ FILE_NAME_LIMIT = 255
 MOST_LINES = 700_000
 MOST_CALLS = 65_536
 MOST_UPDATES = 64
-MOST_TENSORS, MOST_SESSIONS, MOST_PRINTS = 32, 16, 64
+MOST_TENSORS, MOST_SESSIONS, MOST_PRINTS, MOST_SCHEMAS = 32, 16, 64, 16
 MOST_LATCHES, MOST_TENSOR_LATCHES = 1_024, 256
 MOST_COORDINATE = 2**32 - 1
 MOST_ORDER = 5
@@ -107,7 +109,7 @@ class Run:
 
     def __init__(self, files, not_built=NOT_BUILT):
         self.files, self.not_built = Path(files), not_built
-        self.tensors, self.cells = {}, {}
+        self.schemas, self.tensors, self.cells = ["flat"], {}, {}
         self.prints, self.sessions = [], []
         self.loaded = self.updates = self.script_bytes = 0
         self.verdicts = []
@@ -165,7 +167,7 @@ class Run:
             return "limit"
         if not has_manifest_form(verb, words):
             return "form"
-        if verb == "schema" and "schema" in self.not_built or verb == "session" and self.sessions and "session" in self.not_built:
+        if verb == "session" and self.sessions and "session" in self.not_built:
             return "not built"
         if verb in HEADERS and self.sessions:
             return "order"
@@ -198,8 +200,14 @@ class Run:
     def prepare(self, manifest, number, words):
         """Does what a line of the manifest asks for before the sessions run."""
         verb = words[0]
-        if verb == b"tensor" and any(word != b"flat" for word in words[words.index(b"as", 2) + 1 : -2]):
-            raise Refused(manifest, number, "name")
+        if verb == b"schema":
+            self.read_schemas(manifest, number, words[1])
+        if verb == b"tensor":
+            formats = [word.decode() for word in words[words.index(b"as", 2) + 1 : -2]]
+            if any(it not in self.schemas for it in formats):
+                raise Refused(manifest, number, "name")
+            if "structures" in self.not_built and any(it != "flat" for it in formats):
+                raise Refused(manifest, number, "not built")
         if verb == b"load":
             self.load(words[1], words[2])
         if verb == b"session":
@@ -208,6 +216,17 @@ class Run:
             if self.script_bytes > FILE_LIMIT:
                 raise Refused(words[1], 0, "limit")
             self.verdicts.append(list(self.read_script(words[1], text)))
+
+    def read_schemas(self, manifest, number, name):
+        for schema in schemas_of(name, self.fetch(name)):
+            broken = breach(schema)
+            if schema.name in self.schemas:
+                raise Refused(manifest, number, "twice")
+            if len(self.schemas) > MOST_SCHEMAS:
+                raise Refused(manifest, number, "limit")
+            if broken:
+                raise Refused(manifest, number, "breach {} {}".format(*broken))
+            self.schemas.append(schema.name)
 
     def load(self, tensor, name):
         for number, line, words in content_lines(self.fetch(name)):
@@ -356,12 +375,31 @@ def listed(cells):
     return [" ".join([*map(str, at), written(value)]) for at, value in sorted(cells.items()) if value]
 
 
+def schemas_of(name, text):
+    """The schemas of a file, or the refusal of the file."""
+    schemas = read_schemas(text)
+    if isinstance(schemas, tuple):
+        why, line, column = schemas
+        raise Refused(name, line, f"{why} {column}")
+    return schemas
+
+
+def checked(name, text):
+    """What `check` prints of a schema file, and its status."""
+    breaches = [(it.name, breach(it)) for it in schemas_of(name, text)]
+    rows = [f"{it} breach {broken[0]} {broken[1]}\n" if broken else f"{it} ok\n" for it, broken in breaches]
+    return 2 if any(broken for _, broken in breaches) else 0, "".join(rows).encode()
+
+
 def run(words, files, not_built=NOT_BUILT):
     """The status of a run on these words, and what it prints."""
-    if len(words) != 2 or words[0] != b"run" or not is_file_name(words[1]):
+    if len(words) != 2 or words[0] not in (b"run", b"check") or not is_file_name(words[1]):
         return 1, USAGE
+    it = Run(files, not_built)
     try:
-        return 0, Run(files, not_built).report(words[1])
+        if words[0] == b"check":
+            return checked(words[1], it.fetch(words[1]))
+        return 0, it.report(words[1])
     except NotFetched as why:
         return 3, b"shelf " + why.args[0] + b"\n"
     except Refused as why:

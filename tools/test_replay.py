@@ -28,6 +28,8 @@ SCRIPTS = [
     ("set v 1 / set v x 1 / put v 1 1 / set v 1 1x / set 1 1 1", "session 1 / 1 refused rank v 0 1 / 2 refused form 7 / 3 refused form 1 / 4 refused form 9 / 5 refused form 5 / history 0"),
     ("set v 1 2.5 / set v 1 18446744073709551616 / set v 1 1e3", "session 1 / 1 refused number whole / 2 refused number range / 3 ok / history 1 / 1 3"),
 ]
+BIG = "schema big { node A { run 1..16 post B } node B { run 1..4 post B } root A }"
+TREE = "schema tree { node B { run 4..8 woven } root B }"
 # A manifest, the other files, the status and what is printed.
 WORKLOADS = [
     (B, {"b": "1 1 3.000 / 2 2 2.50e1 / 2 2 -5"}, 0, "history 0 / tensor B 2 / 1 1 3 / 2 2 20"),
@@ -46,9 +48,36 @@ WORKLOADS = [
     ("session s / tensor v 0 as flat latches 1", {}, 2, "refused m 2 order"),
     ("tensor v 5 as flat latches 1 1", {}, 2, "refused m 1 form"),
     (V + " / session t", {"s": ""}, 2, "refused m 3 not built"),
+    ("schema q / tensor v 5 as big latches 1", {"q": BIG}, 2, "refused m 1 breach 6 A"),
+    ("schema q / tensor v 5 as tree latches 1", {"q": TREE}, 2, "refused m 2 not built"),
+    ("schema q / tensor v 5 as bush latches 1", {"q": TREE}, 2, "refused m 2 name"),
+    ("schema q / schema q", {"q": TREE}, 2, "refused m 2 twice"),
+    ("schema q", {"q": TREE.replace("tree", "flat")}, 2, "refused m 1 twice"),
+    ("schema q", {"q": TREE.replace("8", "7")}, 2, "refused m 1 breach 3 B"),
+    ("schema q", {"q": "# a comment / schema a { node"}, 2, "refused q 2 form 16"),
+    ("schema q", {}, 3, "shelf q"),
+    ("schema q / tensor v 5 as flat latches 1 / print v", {"q": TREE}, 0, "history 0 / tensor v 0"),
     (" / ".join(f"tensor t{n} 300 as flat latches 256" for n in range(4)), {}, 0, "history 0"),
     (" / ".join(f"tensor t{n} 300 as flat latches {256 if n < 4 else 1}" for n in range(5)), {}, 2, "refused m 5 limit"),
     (" / ".join(f"tensor t{n} 300 as flat latches 1" for n in range(33)), {}, 2, "refused m 33 limit"),
+]
+# A schema file, the status of a check of it and what is printed.
+CHECKS = [
+    ("", 0, ""),
+    (BIG + " / " + TREE, 2, "big breach 6 A / tree ok"),
+    (TREE, 0, "tree ok"),
+    ("schema a { node", 2, "refused q 1 form 16"),
+    ("schema s { node A { run 0..1 woven } node A { run 2..2 post C } root B }", 2, "s breach 1 A"),
+    ("schema s { node A { run 2..2 post A } root A }", 2, "s breach 2 A"),
+    ("schema s { node A { run 1..1 woven } root A }", 2, "s breach 3 A"),
+    ("schema s { node A { run 1..2 woven } node A { run 1..2 woven } root B }", 2, "s breach 4 A"),
+    ("schema s { node A { run 1..2 post C } root B }", 2, "s breach 4 A"),
+    ("schema s { node A { run 1..2 woven } root B }", 2, "s breach 4 B"),
+    ("schema s { node A { run 1..2 post B } node B { run 1..2 post A } root A }", 2, "s breach 5 A"),
+    ("schema s { node A { run 1..9 post B } node B { run 1..4 post B } root A }", 2, "s breach 6 A"),
+    ("schema s { node A { run 1..8 post B } node B { run 1..4 post B } root A }", 0, "s ok"),
+    ("schema s { node A { run 1..2 woven } node B { run 1..2 pre A post B } root A }", 2, "s breach 7 B"),
+    ("schema s { node A { run 1..2 woven } node B { run 1..2 pre A post B } root B }", 0, "s ok"),
 ]
 # A query or batch over B and C, and what is printed behind its number.
 CALLS = [
@@ -70,11 +99,11 @@ VALUES += [(word, None) for word in (".5", "nan", "1e", "1e1000", "", "+", "--1"
 VALUES += [("18446744073709551616", "range"), ("-9223372036854775809", "range"), ("1" + "0" * 4000 + "e-999", "range"), ("1e18", 10**18)]
 
 
-def printed(manifest, files, not_built=NOT_BUILT):
+def printed(manifest, files, not_built=NOT_BUILT, words=(b"run", b"m")):
     with tempfile.TemporaryDirectory() as room:
         for name, text in {**files, "m": manifest}.items():
             (Path(room) / name).write_bytes("\n".join(text.split(" / ")).encode())
-        status, text = run([b"run", b"m"], room, not_built)
+        status, text = run([*words], room, not_built)
     return status, " / ".join(text.decode().splitlines())
 
 
@@ -88,6 +117,12 @@ class Replay(unittest.TestCase):
         for manifest, files, *wanted in WORKLOADS:
             with self.subTest(manifest, **files):
                 self.assertEqual(printed(manifest, files), tuple(wanted))
+
+    def test_schema_files_are_checked(self):
+        for text, *wanted in CHECKS:
+            with self.subTest(text):
+                self.assertEqual(printed("", {"q": text}, words=(b"check", b"q")), tuple(wanted))
+        self.assertEqual(printed("", {}, words=(b"check", b"q")), (3, "shelf q"))
 
     def test_rows_of_the_formats_are_what_it_prints(self):
         """Each worked row of docs/FORMATS.md that gives a whole script of the usual manifest, or a manifest and its data."""
@@ -111,7 +146,7 @@ class Replay(unittest.TestCase):
         for line, wanted in CALLS:
             with self.subTest(line):
                 history = " / history 0" if "refused" in wanted else " / history 1 / 1 1"
-                self.assertEqual(printed(BC, {**BC_FILES, "s": line}, {"schema", "session"}), (0, f"session 1 / 1 {wanted}{history}"))
+                self.assertEqual(printed(BC, {**BC_FILES, "s": line}, {"session"}), (0, f"session 1 / 1 {wanted}{history}"))
                 self.assertEqual(printed(BC, {**BC_FILES, "s": line}, {"query", "batch"}), (2, "refused s 1 not built"))
 
     def test_values(self):

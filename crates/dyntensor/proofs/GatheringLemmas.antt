@@ -8,8 +8,9 @@ use Rattle.std.proofs.lemmas.List.{map-append, length-set}
 use Rattle.std.proofs.lemmas.List.Elements.{All-push}
 use Rattle.std.proofs.lemmas.List.Sums.{sum_by_push, sum_by-set}
 use Rattle.std.proofs.lemmas.Grind.{common_steps}
+use Rattle.dt_model.specs.declared.declared_tensors.Schema.{Schema}
 use Rattle.dt_model.specs.declared.declared_tensors.TensorDecl.{TensorDecl}
-use Rattle.dt_model.specs.declared.limits.TheConstants.{MOST_TENSORS, MOST_LATCHES, MOST_SESSIONS, MOST_CALLS, MOST_LINES}
+use Rattle.dt_model.specs.declared.limits.TheConstants.{MOST_SCHEMAS, MOST_TENSORS, MOST_LATCHES, MOST_SESSIONS, MOST_CALLS, MOST_LINES}
 use Rattle.dt_model.specs.declared.replies.Verdict.{Verdict}
 use Rattle.dt_model.specs.Tensors.{dims_of, total_latches}
 use Rattle.dt_model.specs.Verdicts.{all_in_range, tensor_number}
@@ -19,9 +20,9 @@ use Rattle.script_read.specs.declared.declarations.Declared.{Declared}
 use Rattle.script_read.specs.declared.items.Item.TheVariants.{Tensor, Session, Print}
 use Rattle.script_read.specs.Manifests.{declared_with, is_declared, is_within_limits}
 use Rattle.script_read.specs.Sound.{IsSoundItem, IsSoundScript}
-use Rattle.dyntensor.specs.Workload.{Gathered, nothing, decls_of, work_of, lines_in, updates_of, lines_left, with_tensor, with_lines, with_script, with_print}
+use Rattle.dyntensor.specs.Workload.{Gathered, nothing, decls_of, work_of, lines_in, updates_of, lines_left, with_schema, with_tensor, with_lines, with_script, with_print}
 use Rattle.dyntensor.specs.Gathering.{IsRunnable, IsGatheredFrom}
-use Rattle.dyntensor.proofs.DeclaredLemmas.{decls_with, tensor_with, AreValid, AreValid-from, AreValid-push, decls_are_valid-from, dims_of-push, tensor_number-declared}
+use Rattle.dyntensor.proofs.DeclaredLemmas.{decls_with, tensor_with, has_few_kinds, AreValid, AreValid-from, AreValid-schema, AreValid-push, decls_are_valid-from, dims_of-push, tensor_number-declared}
 use Rattle.dyntensor.proofs.LoadsLemmas.{from_tensor-same, from_tensor-push, from_tensor-set}
 
 below : (n m : ℕ) → nat_le n m ≡ true → n ≤ m
@@ -46,7 +47,7 @@ as_many_bases g h = same (length g.base) (length g.tensors) h.valid.tensors
 
 -- the tensors are few
 pub tensors_are_few : (g : Gathered) → IsRunnable (work_of g).world g.printed → length g.tensors ≤ MOST_TENSORS
-tensors_are_few g h = (AreValid-from g.tensors h.valid.decls).few
+tensors_are_few g h = (AreValid-from g.schemas g.tensors h.valid.decls).few
 
 -- the limits that an item keeps
 record AreLimits (d : Declared) : Type 0 where
@@ -79,10 +80,38 @@ IsGatheredFrom-nothing = record {
   };
 }
 
+-- ---- a schema more
+
+-- what was gathered with a schema more
+pub IsGatheredFrom-schema : (d : Declared) (g : Gathered) (s : Schema) → IsGatheredFrom d g → d.sessions ≡ 0 → length g.schemas < MOST_SCHEMAS
+    → has_few_kinds s ≡ true → IsGatheredFrom d (with_schema g s)
+IsGatheredFrom-schema d g s h early few small =
+    let v = h.runnable.valid in
+    let none : g.scripts ≡ [] = no_scripts g.scripts (h.sessions ∙ early) in
+    record {
+      names = h.names;
+      sessions = h.sessions;
+      latches = h.latches;
+      runnable = record {
+        valid = record {
+          decls = decls_are_valid-from (g.schemas ++ s ∷ []) g.tensors
+              (AreValid-schema g.schemas s g.tensors (AreValid-from g.schemas g.tensors v.decls) few small);
+          sessions = v.sessions;
+          calls = v.calls;
+          sizes = v.sizes;
+          tensors = v.tensors;
+          loads = from_tensor-same (decls_with g.schemas g.tensors) (decls_with (g.schemas ++ s ∷ []) g.tensors) 0 g.base (λ t l. refl) ∙ v.loads;
+          accepted = subst (λ ss. list_all (list_all (verdict_is_valid (decls_with (g.schemas ++ s ∷ []) g.tensors))) ss ≡ true) (sym none) refl;
+        };
+        single = h.runnable.single;
+        are_declared = h.runnable.are_declared;
+      };
+    }
+
 -- ---- a tensor more
 
 tensors_more : (d : Declared) (g : Gathered) (name dims : List ℕ) (formats : List (List ℕ)) (latches : ℕ) → IsGatheredFrom d g
-    → IsSoundItem d (Tensor name dims (record { items = formats }) latches) → AreValid (g.tensors ++ tensor_with name dims latches ∷ [])
+    → IsSoundItem d (Tensor name dims (record { items = formats }) latches) → AreValid g.schemas (g.tensors ++ tensor_with name dims latches ∷ [])
 tensors_more d g name dims formats latches h s =
     let x = tensor_with name dims latches in
     let limits = limits_from (declared_with d (Tensor name dims (record { items = formats }) latches)) s.limits in
@@ -93,7 +122,7 @@ tensors_more d g name dims formats latches h s =
     let more : length (d.tensors ++ name ∷ []) ≡ length d.tensors + 1 = grind (arith, common_steps) in
     let sum : total_latches (g.tensors ++ x ∷ []) ≡ total_latches g.tensors + latches = sum_by_push (λ (t : TensorDecl). t.latches) g.tensors x in
     let had = h.latches in
-    AreValid-push g.tensors name dims formats latches (AreValid-from g.tensors h.runnable.valid.decls) s.asked.0
+    AreValid-push g.schemas g.tensors name dims formats latches (AreValid-from g.schemas g.tensors h.runnable.valid.decls) s.asked.0
     (subst (λ ns. list_any (pointwise nat_eq name) ns ≡ false) (sym h.names) s.asked.1.fresh) (omega arith) (omega arith)
   where
     length-names : (ts : List TensorDecl) → length (map (λ (t : TensorDecl). t.name) ts) ≡ length ts
@@ -119,15 +148,16 @@ IsGatheredFrom-tensor d g name dims formats latches h s =
       latches = sum_by_push (λ (t : TensorDecl). t.latches) g.tensors x ∙ ap (λ n. n + latches) h.latches;
       runnable = record {
         valid = record {
-          decls = decls_are_valid-from (g.tensors ++ x ∷ []) (tensors_more d g name dims formats latches h s);
+          decls = decls_are_valid-from g.schemas (g.tensors ++ x ∷ []) (tensors_more d g name dims formats latches h s);
           sessions = v.sessions;
           calls = v.calls;
           sizes = test (lines_in (g.base ++ [] ∷ []) + updates_of g.scripts) MOST_LINES (omega arith);
           tensors = equal (length (g.base ++ [] ∷ [])) (length (g.tensors ++ x ∷ [])) (omega arith);
-          loads = from_tensor-push (decls_with (g.tensors ++ x ∷ [])) 0 g.base
-              (from_tensor-same (decls_with g.tensors) (decls_with (g.tensors ++ x ∷ [])) 0 g.base (λ t l. dims_of-push g.tensors x t (omega (arith, l))) ∙
+          loads = from_tensor-push (decls_with g.schemas (g.tensors ++ x ∷ [])) 0 g.base
+              (from_tensor-same (decls_with g.schemas g.tensors) (decls_with g.schemas (g.tensors ++ x ∷ [])) 0 g.base
+              (λ t l. dims_of-push g.schemas g.tensors x t (omega (arith, l))) ∙
               v.loads);
-          accepted = subst (λ ss. list_all (list_all (verdict_is_valid (decls_with (g.tensors ++ x ∷ [])))) ss ≡ true) (sym none) refl;
+          accepted = subst (λ ss. list_all (list_all (verdict_is_valid (decls_with g.schemas (g.tensors ++ x ∷ [])))) ss ≡ true) (sym none) refl;
         };
         single = h.runnable.single;
         are_declared = λ k e l. let p = h.runnable.are_declared k e l in omega arith;
@@ -209,7 +239,7 @@ IsGatheredFrom-script d g file bytes script h s sound =
 -- the tensor of a declared name
 pub number_is_declared : (d : Declared) (g : Gathered) (name : List ℕ) → IsGatheredFrom d g → is_declared d name ≡ true
     → tensor_number (decls_of g) name < length g.tensors
-number_is_declared d g name h e = tensor_number-declared g.tensors name (subst (λ ns. list_any (pointwise nat_eq name) ns ≡ true) (sym h.names) e)
+number_is_declared d g name h e = tensor_number-declared g.schemas g.tensors name (subst (λ ns. list_any (pointwise nat_eq name) ns ≡ true) (sym h.names) e)
 
 -- what was gathered with a tensor more to print
 pub IsGatheredFrom-print : (d : Declared) (g : Gathered) (name : List ℕ) → IsGatheredFrom d g → is_declared d name ≡ true

@@ -1,6 +1,8 @@
 pub mod DeclaredLemmas
 pub mod LoadsLemmas
 pub mod GatheringLemmas
+pub mod Bindings
+pub mod SchemasTaken
 pub mod WorkloadLemmas
 pub mod ReadingsLemmas
 pub mod SessionCalls
@@ -8,3 +10,4 @@ pub mod ScriptRunLemmas
 pub mod ScriptRows
 pub mod FinishedRuns
 pub mod OutcomeLemmas
+pub mod CheckLemmas

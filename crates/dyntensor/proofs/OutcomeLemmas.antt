@@ -4,23 +4,21 @@ use Rattle.std.specs.Prelude.{◌⊎◌, ◌↔◌, IfSome, MatchResult}
 use Rattle.dt_outside.specs.Faults.{ShelfState, HasRisen, IsAppended}
 use Rattle.dyntensor.specs.declared.faults.Fault.{Fault}
 use Rattle.dyntensor.specs.declared.outcomes.Outcome.{Outcome}
-use Rattle.dyntensor.specs.declared.outcomes.Outcome.TheVariants.{Report, Usage, Refused, Unfetched, OutOfMemory}
-use Rattle.dyntensor.specs.Commands.{manifest_named}
+use Rattle.dyntensor.specs.declared.outcomes.Outcome.TheVariants.{Report, Usage, Breaches, Refused, Unfetched, OutOfMemory}
 use Rattle.dyntensor.specs.Headline.{PrintsWorkload, WritesWhere, Completes}
 use Rattle.dyntensor.specs.Outcome.{status_of, due_text, HasCause, HasCauseIn, IsWritten, Ends}
 use Rattle.dyntensor.specs.Workload.{Work, workload}
 use Rattle.dyntensor.proofs.ReadingsLemmas.{IfSome-map}
 
 -- what holds of everything holds of exposed files
-IfSome-all : {X : Type 0} (o : Option X) (P : X → Type 0) → ((x : X) → P x) → IfSome o P
+pub IfSome-all : {X : Type 0} (o : Option X) (P : X → Type 0) → ((x : X) → P x) → IfSome o P
 IfSome-all None P h = tt
 IfSome-all (Some x) P h = h x
 
 -- an outcome whose text is written
-pub ends_from : (words : List (List ℕ)) (shelf new_shelf : ShelfState) (o : Outcome) (status : ℕ) (old new : Option (List ℕ)) (before after : ℕ)
-    → HasCause (manifest_named words) shelf new_shelf o → IsWritten (status_of o) (due_text o) status old new before after
-    → Ends words shelf new_shelf status old new before after
-ends_from words shelf new_shelf o status old new before after h p = record { outcome = o; cause = h; printed = p }
+pub ends_from : (Cause : Outcome → Type 0) (o : Outcome) (status : ℕ) (old new : Option (List ℕ)) (before after : ℕ)
+    → Cause o → IsWritten (status_of o) (due_text o) status old new before after → Ends Cause status old new before after
+ends_from Cause o status old new before after h p = record { outcome = o; cause = h; printed = p }
 
 module _ (status : ℕ) (old new : Option (List ℕ)) (before after : ℕ) where
   -- the status is at most 5
@@ -28,6 +26,7 @@ module _ (status : ℕ) (old new : Option (List ℕ)) (before after : ℕ) where
   status_few o (inr p) = let s = p.0 in omega arith
   status_few (Report text) (inl p) = let s = p.0 in omega arith
   status_few Usage (inl p) = let s = p.0 in omega arith
+  status_few (Breaches text) (inl p) = let s = p.0 in omega arith
   status_few (Refused fault) (inl p) = let s = p.0 in omega arith
   status_few (Unfetched file) (inl p) = let s = p.0 in omega arith
   status_few OutOfMemory (inl p) = let s = p.0 in omega arith
@@ -37,6 +36,7 @@ module _ (status : ℕ) (old new : Option (List ℕ)) (before after : ℕ) where
   sink_rose o (inr p) e = p.2
   sink_rose (Report text) (inl p) e = let s = p.0 in absurd (omega arith)
   sink_rose Usage (inl p) e = let s = p.0 in absurd (omega arith)
+  sink_rose (Breaches text) (inl p) e = let s = p.0 in absurd (omega arith)
   sink_rose (Refused fault) (inl p) e = let s = p.0 in absurd (omega arith)
   sink_rose (Unfetched file) (inl p) e = let s = p.0 in absurd (omega arith)
   sink_rose OutOfMemory (inl p) e = let s = p.0 in absurd (omega arith)
@@ -56,7 +56,8 @@ module _ (status : ℕ) (old new : Option (List ℕ)) (before after : ℕ) where
   own_unless_rose o (inl p) n = p.0
   own_unless_rose o (inr p) n = absurd (n p.2)
 
-  written_where : (P : List ℕ → Type 0) (text : List ℕ) → P text → (o n : Option (List ℕ)) → IsAppended o text n → WritesWhere P o n
+  -- what is appended was written
+  pub written_where : (P : List ℕ → Type 0) (text : List ℕ) → P text → (o n : Option (List ℕ)) → IsAppended o text n → WritesWhere P o n
   written_where P text h o None w = tt
   written_where P text h o (Some all) w = (text, w, h)
 
@@ -70,6 +71,7 @@ module _ (status : ℕ) (old new : Option (List ℕ)) (before after : ℕ) where
       IfSome-map shelf.files (λ f. workload f m ≡ Ok h.work) (λ f. WritesWhere (PrintsWorkload f m) old new)
       (λ f asked. written_where (PrintsWorkload f m) text.items (record { work = h.work; asked = asked; printed = h.printed }) old new p.1) h.asked
   headline_in Usage (Some m) shelf new_shelf h (inl p) e = absurd h
+  headline_in (Breaches text) (Some m) shelf new_shelf h (inl p) e = absurd h
   headline_in (Refused fault) (Some m) shelf new_shelf h (inl p) e = let s = p.0 in absurd (omega arith)
   headline_in (Unfetched file) (Some m) shelf new_shelf h (inl p) e = let s = p.0 in absurd (omega arith)
   headline_in OutOfMemory (Some m) shelf new_shelf h (inl p) e = let s = p.0 in absurd (omega arith)
@@ -86,6 +88,7 @@ usage_in status o (Some m) shelf new_shelf h e = (λ one. absurd (not_one o h (s
     not_one : (o : Outcome) → HasCauseIn m shelf new_shelf o → status_of o ≡ 1 → ⊥
     not_one (Report text) h e = omega arith
     not_one Usage h e = h
+    not_one (Breaches text) h e = h
     not_one (Refused fault) h e = omega arith
     not_one (Unfetched file) h e = omega arith
     not_one OutOfMemory h e = omega arith
@@ -96,6 +99,7 @@ pub shelf_rose : (o : Outcome) (manifest : Option (List ℕ)) (shelf new_shelf :
 shelf_rose o None shelf new_shelf h e = let one : status_of o ≡ 1 = ap status_of h in absurd (omega arith)
 shelf_rose (Report text) (Some m) shelf new_shelf h e = absurd (omega arith)
 shelf_rose Usage (Some m) shelf new_shelf h e = absurd h
+shelf_rose (Breaches text) (Some m) shelf new_shelf h e = absurd h
 shelf_rose (Refused fault) (Some m) shelf new_shelf h e = absurd (omega arith)
 shelf_rose (Unfetched file) (Some m) shelf new_shelf h e = h.rose
 shelf_rose OutOfMemory (Some m) shelf new_shelf h e = absurd (omega arith)
@@ -108,6 +112,7 @@ completes_in status o None shelf new_shelf h e quiet = IfSome-all shelf.files (�
 completes_in status (Report text) (Some m) shelf new_shelf h e quiet =
     IfSome-map shelf.files (λ f. workload f m ≡ Ok h.work) (λ f. Completes f m status) (λ f asked. rw asked (inl e)) h.asked
 completes_in status Usage (Some m) shelf new_shelf h e quiet = absurd h
+completes_in status (Breaches text) (Some m) shelf new_shelf h e quiet = absurd h
 completes_in status (Refused fault) (Some m) shelf new_shelf h e quiet =
     IfSome-map shelf.files (λ f. workload f m ≡ Err fault) (λ f. Completes f m status) (λ f is. rw is (inl e)) h
 completes_in status (Unfetched file) (Some m) shelf new_shelf h e quiet = absurd (quiet h.rose)

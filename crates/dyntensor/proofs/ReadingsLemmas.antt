@@ -14,9 +14,10 @@ use Rattle.dyntensor.specs.declared.stops.Stop.{Stop}
 use Rattle.dyntensor.specs.declared.stops.Stop.TheVariants.{Refused, Unfetched, NoMemory}
 use Rattle.dyntensor.specs.Reached.{file_of, IsReached}
 use Rattle.dyntensor.specs.Workload.{Files, too_large, text_in, Gathered, Work, nothing, work_of, with_item, with_items, items_in, workload}
-use Rattle.dyntensor.specs.Readings.{HoldsOf, IsQuiet, HasFailed, IsFileStop, IsStop}
+use Rattle.dyntensor.specs.Readings.{IsFaultStop, HoldsOf, IsQuiet, HasFailed, IsFileStop, IsStop}
 use Rattle.dyntensor.specs.Gathering.{IsGatheredFrom}
-use Rattle.dyntensor.proofs.WorkloadLemmas.{bind-of, bind-Err, with_items-take, with_items-fault, split_at, IsGatheredFrom-item}
+use Rattle.dyntensor.proofs.Bindings.{bind-of, bind-Err}
+use Rattle.dyntensor.proofs.WorkloadLemmas.{with_items-take, with_items-fault, split_at, IsGatheredFrom-item}
 
 -- ---- files
 
@@ -79,6 +80,40 @@ IsFileStop-bind old new file first then (Refused fault) h =
     (λ files. bind-Err (first files) (then files) fault) h
 IsFileStop-bind old new file first then (Unfetched name) h = h
 IsFileStop-bind old new file first then NoMemory h = tt
+
+-- a stop of a reading that fetches no file is one that fetches files
+pub IsFileStop-fault : {X : Type 0} (old new : ShelfState) (file : Option (List ℕ)) (reading : Result X Fault) (stop : Stop) → IsFaultStop reading stop
+    → IsFileStop old new file (λ files. reading) stop
+IsFileStop-fault old new file reading (Refused fault) h = always old.files
+  where
+    always : (o : Option Files) → IfSome o (λ files. reading ≡ Err fault)
+    always None = tt
+    always (Some files) = h
+IsFileStop-fault old new file reading (Unfetched name) h = absurd h
+IsFileStop-fault old new file reading NoMemory h = tt
+
+-- a stop of a first reading that fetches no file is that of both
+pub IsFaultStop-bind : {X Y : Type 0} (first : Result X Fault) (then : X → Result Y Fault) (stop : Stop) → IsFaultStop first stop
+    → IsFaultStop (first >>= then) stop
+IsFaultStop-bind first then (Refused fault) h = bind-Err first then fault h
+IsFaultStop-bind first then (Unfetched name) h = absurd h
+IsFaultStop-bind first then NoMemory h = tt
+
+-- a stop after a first reading of a file is that of both
+pub IsFileStop-then : {X Y : Type 0} (old new : ShelfState) (file : Option (List ℕ)) (first : Files → Result X Fault) (then : X → Result Y Fault) (x : X)
+    (stop : Stop)
+    → HoldsOf old.files (λ files. first files ≡ Ok x) → IsFaultStop (then x) stop → IsFileStop old new file (λ files. first files >>= then) stop
+IsFileStop-then old new file first then x (Refused fault) h s =
+    IfSome-map old.files (λ files. first files ≡ Ok x) (λ files. (first files >>= then) ≡ Err fault)
+    (λ files is. bind-of (first files) then x is ∙ s) (IfSome-HoldsOf old.files (λ files. first files ≡ Ok x) h)
+IsFileStop-then old new file first then x (Unfetched name) h s = absurd s
+IsFileStop-then old new file first then x NoMemory h s = tt
+
+-- two readings of files, one after the other
+pub HoldsOf-then : {X Y : Type 0} (o : Option Files) (first : Files → Result X Fault) (then : X → Result Y Fault) (x : X) (y : Y)
+    → HoldsOf o (λ files. first files ≡ Ok x) → then x ≡ Ok y → HoldsOf o (λ files. (first files >>= then) ≡ Ok y)
+HoldsOf-then o first then x y h e =
+    HoldsOf-map o (λ files. first files ≡ Ok x) (λ files. (first files >>= then) ≡ Ok y) (λ files is. bind-of (first files) then x is ∙ e) h
 
 -- a file that was fetched
 pub fetched : (o : Option Files) (file text : List ℕ) → length text ≤ FILE_LIMIT → IfSome o (λ f. text ≡ f file)

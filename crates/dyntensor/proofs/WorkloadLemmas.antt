@@ -7,7 +7,6 @@ use Rattle.dt_model.specs.declared.limits.TheConstants.{FILE_LIMIT}
 use Rattle.dt_model.specs.Verdicts.{tensor_number}
 use Rattle.dt_model.specs.Tensors.{dims_of}
 use Rattle.tns_io.specs.declared.faults.FileCause.TheVariants as because
-use Rattle.tns_io.specs.declared.faults.FileFault.{FileFault}
 use Rattle.tns_io.specs.Faults.{fault_at}
 use Rattle.tns_io.specs.Tns.{tns_of}
 use Rattle.script_read.specs.declared.declarations.Declared.{Declared}
@@ -19,10 +18,12 @@ use Rattle.script_read.specs.Readings.{◌>>=◌, check}
 use Rattle.script_read.specs.Scripts.{script_of}
 use Rattle.script_read.specs.Sound.{IsSoundItem, AreSound}
 use Rattle.script_read.proofs.ManifestsLemmas.{AreSound-manifest_of}
-use Rattle.script_read.proofs.ReadingsLemmas.{check-Ok, Ok-same, Err-Ok}
+use Rattle.script_read.proofs.ReadingsLemmas.{check-Ok, Ok-same}
 use Rattle.dyntensor.specs.declared.faults.Fault.{Fault}
-use Rattle.dyntensor.specs.Workload.{Files, fault_in, located, too_large, text_in, Gathered, decls_of, lines_left, with_tensor, with_lines, with_script, with_print, is_flat, with_item, with_items, items_in}
+use Rattle.dyntensor.specs.Workload.{Files, fault_in, located, too_large, text_in, Gathered, decls_of, lines_left, with_tensor, with_lines, with_script, with_print, is_flat, is_schema, all_taken, schemas_of, with_item, with_items, items_in}
 use Rattle.dyntensor.specs.Gathering.{IsGatheredFrom}
+use Rattle.dyntensor.proofs.Bindings.{bind-Ok, bind-of, bind-Err, located-Ok}
+use Rattle.dyntensor.proofs.SchemasTaken.{IsGatheredFrom-taken, schemas_of-small}
 use Rattle.dyntensor.proofs.GatheringLemmas.{IsGatheredFrom-tensor, IsGatheredFrom-lines, IsGatheredFrom-script, IsGatheredFrom-print, number_is_declared}
 use Rattle.tns_io.proofs.ReadPairs.{length-tns_of, tns_of-in_range}
 use Rattle.script_read.proofs.ScriptsLemmas.{IsSoundScript-script_of}
@@ -33,35 +34,20 @@ slice_get-of [] i x l e = absurd (omega arith)
 slice_get-of (y ∷ ys) zero x l e = ap Some (sym e)
 slice_get-of (y ∷ ys) (suc i) x l e = slice_get-of ys i x (omega arith) e
 
--- ---- readings one after the other
-
--- a first reading succeeded, and then the second
-pub bind-Ok : {X Y E : Type 0} (r : Result X E) (f : X → Result Y E) (y : Y) → (r >>= f) ≡ Ok y → (x : X) × (r ≡ Ok x) × (f x ≡ Ok y)
-bind-Ok (Ok x) f y h = (x, refl, h)
-bind-Ok (Err e) f y h = absurd (Err-Ok e y h)
-
--- the second reading comes where the first succeeds
-pub bind-of : {X Y E : Type 0} (r : Result X E) (f : X → Result Y E) (x : X) → r ≡ Ok x → (r >>= f) ≡ f x
-bind-of r f x e = ap (λ r. r >>= f) e
-
--- the fault of the first reading
-pub bind-Err : {X Y E : Type 0} (r : Result X E) (f : X → Result Y E) (e : E) → r ≡ Err e → (r >>= f) ≡ Err e
-bind-Err r f e h = ap (λ r. r >>= f) h
-
--- a text that was read
-pub located-Ok : {X : Type 0} (file : List ℕ) (r : Result X FileFault) (x : X) → located file r ≡ Ok x → r ≡ Ok x
-located-Ok file (Ok y) x h = ap Ok (Ok-same {E = Fault} y x h)
-located-Ok file (Err e) x h = absurd (Err-Ok (fault_in file e) x h)
-
 -- ---- an item more
 
 -- what was gathered with an item more, where it has no fault
 pub IsGatheredFrom-item : (d : Declared) (g new : Gathered) (files : Files) (manifest : List ℕ) (line : ℕ) (item : Item) → IsGatheredFrom d g
     → IsSoundItem d item
     → with_item files manifest g line item ≡ Ok new → IsGatheredFrom (declared_with d item) new
-IsGatheredFrom-item d g new files manifest line (Schema file) h s e = absurd s.asked
+IsGatheredFrom-item d g new files manifest line (Schema file) h s e =
+    let a = bind-Ok (schemas_of files file) (λ schemas. all_taken manifest line g schemas) new e in
+    IsGatheredFrom-taken d manifest line g a.0 new h s.asked (schemas_of-small files file a.0 a.1) a.2
 IsGatheredFrom-item d g new files manifest line (Tensor name dims formats latches) h s e =
-    let made = check-Ok (list_all is_flat formats.items) (fault_in manifest (fault_at line because.Name)) (λ _. Ok (with_tensor g name dims latches)) new e in
+    let known = check-Ok (list_all (is_schema g) formats.items) (fault_in manifest (fault_at line because.Name))
+    (λ _. check (list_all is_flat formats.items) (fault_in manifest (fault_at line because.NotBuilt)) >>= (λ _. Ok (with_tensor g name dims latches))) new e in
+    let made = check-Ok (list_all is_flat formats.items) (fault_in manifest (fault_at line because.NotBuilt)) (λ _. Ok (with_tensor g name dims latches)) new
+    known.1 in
     subst (IsGatheredFrom (declared_with d (Tensor name dims formats latches))) (Ok-same {E = Fault} (with_tensor g name dims latches) new made.1)
     (IsGatheredFrom-tensor d g name dims formats.items latches h s)
 IsGatheredFrom-item d g new files manifest line (Load name file) h s e =

@@ -3,8 +3,16 @@ use Rattle.std.specs.Prelude.{ℕ, List, [], ◌∷◌, length, Option, Some, No
 use Rattle.dt_model.specs.declared.limits.TheConstants.{FILE_NAME_LIMIT}
 use Rattle.script_read.specs.Readings.{equals_text}
 
--- the manifest of `run` and one more word of 1 to 255 bytes
+-- the file of a command and one more word of 1 to 255 bytes
+abbrev pub file_named : List ℕ → List (List ℕ) → Option (List ℕ)
+file_named command (word ∷ name ∷ []) =
+    if equals_text command word && nat_le 1 (length name) && nat_le (length name) FILE_NAME_LIMIT then Some name else None
+file_named command words = None
+
+-- the manifest of `run` and one more word
 abbrev pub manifest_named : List (List ℕ) → Option (List ℕ)
-manifest_named (run ∷ name ∷ []) =
-    if equals_text (codes "run") run && nat_le 1 (length name) && nat_le (length name) FILE_NAME_LIMIT then Some name else None
-manifest_named words = None
+manifest_named words = file_named (codes "run") words
+
+-- the file of schemas of `check` and one more word
+abbrev pub schemas_named : List (List ℕ) → Option (List ℕ)
+schemas_named words = file_named (codes "check") words

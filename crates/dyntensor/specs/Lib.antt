@@ -1,8 +1,10 @@
 pub mod Commands
+pub mod Files
 pub mod Workload
 pub mod Reached
 pub mod FaultTexts
 pub mod Outcome
+pub mod Checks
 pub mod Headline
 pub mod Readings
 pub mod Gathering

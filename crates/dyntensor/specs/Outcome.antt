@@ -3,8 +3,7 @@ use Rattle.std.specs.Prelude.{ℕ, ◌≡◌, ◌≤◌, List, length, take, Opt
 use Rattle.dt_model.specs.Report.{PrintsRun}
 use Rattle.dt_outside.specs.Faults.{ShelfState, HasRisen, IsAppended}
 use Rattle.dyntensor.specs.declared.outcomes.Outcome.{Outcome}
-use Rattle.dyntensor.specs.declared.outcomes.Outcome.TheVariants.{Report, Usage, Refused, Unfetched, OutOfMemory}
-use Rattle.dyntensor.specs.Commands.{manifest_named}
+use Rattle.dyntensor.specs.declared.outcomes.Outcome.TheVariants.{Report, Usage, Breaches, Refused, Unfetched, OutOfMemory}
 use Rattle.dyntensor.specs.FaultTexts.{refused_text, shelf_text}
 use Rattle.dyntensor.specs.Reached.{IsReached}
 use Rattle.dyntensor.specs.Workload.{Work, workload}
@@ -13,6 +12,7 @@ use Rattle.dyntensor.specs.Workload.{Work, workload}
 abbrev pub status_of : Outcome → ℕ
 status_of (Report text) = 0
 status_of Usage = 1
+status_of (Breaches text) = 2
 status_of (Refused fault) = 2
 status_of (Unfetched file) = 3
 status_of OutOfMemory = 5
@@ -21,6 +21,7 @@ status_of OutOfMemory = 5
 abbrev pub due_text : Outcome → List ℕ
 due_text (Report text) = text.items
 due_text Usage = codes "usage: dyntensor run MANIFEST | check SCHEMAS | sample N\n"
+due_text (Breaches text) = text.items
 due_text (Refused fault) = refused_text fault
 due_text (Unfetched file) = shelf_text file
 due_text OutOfMemory = codes "no memory\n"
@@ -41,6 +42,7 @@ pub record IsUnfetched (old new : ShelfState) (manifest file : List ℕ) : Type 
 abbrev pub HasCauseIn : List ℕ → ShelfState → ShelfState → Outcome → Type 0
 HasCauseIn manifest old new (Report text) = IsReport old manifest text.items
 HasCauseIn manifest old new Usage = ⊥
+HasCauseIn manifest old new (Breaches text) = ⊥
 HasCauseIn manifest old new (Refused fault) = IfSome old.files (λ files. workload files manifest ≡ Err fault)
 HasCauseIn manifest old new (Unfetched file) = IsUnfetched old new manifest file
 HasCauseIn manifest old new OutOfMemory = Unit {0}
@@ -62,9 +64,9 @@ IsWritten due text status old new before after =
     ((status ≡ due) × IsAppended old text new × (after ≡ before))
     ⊎ ((status ≡ 4) × IsBegun old text new × HasRisen before after)
 
--- how a call of the program ended, with its cause: by the words, by the shelf before and after, and by what the sink has and
--- its count of faults, both before and after
-pub record Ends (words : List (List ℕ)) (shelf new_shelf : ShelfState) (status : ℕ) (old new : Option (List ℕ)) (before after : ℕ) : Type 0 where
+-- how a call of the program ended: with an outcome that has its cause, by what the sink has and its count of faults, both before
+-- and after
+pub record Ends (Cause : Outcome → Type 0) (status : ℕ) (old new : Option (List ℕ)) (before after : ℕ) : Type 0 where
   pub outcome : Outcome
-  pub cause : HasCause (manifest_named words) shelf new_shelf outcome
+  pub cause : Cause outcome
   pub printed : IsWritten (status_of outcome) (due_text outcome) status old new before after

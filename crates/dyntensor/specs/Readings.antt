@@ -1,5 +1,6 @@
 -- What readings of files answer: what they give, and why they stop. No public clause cites this module.
-use Rattle.std.specs.Prelude.{ℕ, ◌≡◌, List, Option, Some, None, Result, Err, IfSome, ⊤}
+use Rattle.std.specs.Prelude.{ℕ, ◌≡◌, true, false, List, Option, Some, None, Result, Err, IfSome, ⊤}
+use Rattle.dt_model.specs.declared.declared_tensors.Schema.{Schema}
 use Rattle.dt_outside.specs.Faults.{ShelfState, HasRisen}
 use Rattle.tns_io.specs.declared.faults.ReadFault.{ReadFault}
 use Rattle.tns_io.specs.declared.faults.ReadFault.TheVariants as read
@@ -9,6 +10,7 @@ use Rattle.dyntensor.specs.declared.outcomes.Outcome.TheVariants as outcomes
 use Rattle.dyntensor.specs.declared.outcomes.Outcome.TheVariants.{OutOfMemory}
 use Rattle.dyntensor.specs.declared.stops.Stop.{Stop}
 use Rattle.dyntensor.specs.declared.stops.Stop.TheVariants.{Refused, Unfetched, NoMemory}
+use Rattle.dyntensor.specs.Checks.{all_keep, check_text}
 use Rattle.dyntensor.specs.Reached.{IsReached}
 use Rattle.dyntensor.specs.Workload.{Files, fault_in}
 
@@ -26,6 +28,12 @@ pub record IsQuiet (old new : ShelfState) : Type 0 where
 pub record HasFailed (old new : ShelfState) (file : List ℕ) : Type 0 where
   pub rose : HasRisen old.faults new.faults
   pub blamed : new.blamed ≡ file
+
+-- why a reading stops that fetches no file
+abbrev pub IsFaultStop : {X : Type 0} → Result X Fault → Stop → Type 0
+IsFaultStop reading (Refused fault) = reading ≡ Err fault
+IsFaultStop reading (Unfetched name) = ⊥
+IsFaultStop reading NoMemory = ⊤
 
 -- why a reading of files stops that fetches this file, if any
 abbrev pub IsFileStop : {X : Type 0} → ShelfState → ShelfState → Option (List ℕ) → (Files → Result X Fault) → Stop → Type 0
@@ -50,3 +58,10 @@ IsOutcomeOf stop OutOfMemory = ⊤
 IsOutcomeOf (Refused fault) outcome = outcome ≡ outcomes.Refused fault
 IsOutcomeOf (Unfetched file) outcome = outcome ≡ outcomes.Unfetched file
 IsOutcomeOf NoMemory outcome = outcome ≡ OutOfMemory
+
+-- the outcome of a check of some schemas, unless it is out of memory
+abbrev pub IsOutcomeOfCheck : List Schema → Outcome → Type 0
+IsOutcomeOfCheck schemas (outcomes.Report text) = (all_keep schemas ≡ true) × (text.items ≡ check_text schemas)
+IsOutcomeOfCheck schemas (outcomes.Breaches text) = (all_keep schemas ≡ false) × (text.items ≡ check_text schemas)
+IsOutcomeOfCheck schemas OutOfMemory = ⊤
+IsOutcomeOfCheck schemas outcome = ⊥

@@ -1,9 +1,11 @@
 -- What a manifest asks for: a world, and the tensors that are printed after its run; or the first fault of a file.
-use Rattle.std.specs.Prelude.{ℕ, ◌+◌, ◌-◌, Bool, List, [], ◌∷◌, ◌++◌, map, length, sum_by, slice_index_or, slice_set, Result, Ok, Err, nat_le}
-use Rattle.std.specs.List.{list_all}
+use Rattle.std.specs.Prelude.{ℕ, ◌+◌, ◌-◌, Bool, List, [], ◌∷◌, ◌++◌, map, length, sum_by, slice_index_or, slice_set, Result, Ok, Err, nat_le, nat_lt, nat_eq, not}
+use Rattle.std.specs.List.{list_all, list_any}
+use Rattle.std.specs.Cmp.Lexicographic.{pointwise}
 use Rattle.dt_model.specs.declared.declared_tensors.Decls.{Decls}
+use Rattle.dt_model.specs.declared.declared_tensors.Schema.{Schema}
 use Rattle.dt_model.specs.declared.declared_tensors.TensorDecl.{TensorDecl}
-use Rattle.dt_model.specs.declared.limits.TheConstants.{FILE_LIMIT, MOST_LINES}
+use Rattle.dt_model.specs.declared.limits.TheConstants.{FILE_LIMIT, MOST_LINES, MOST_SCHEMAS}
 use Rattle.dt_model.specs.declared.replies.Verdict.{Verdict}
 use Rattle.dt_model.specs.declared.replies.World.{World}
 use Rattle.dt_model.specs.Flat.{flat_name, flat_schema}
@@ -11,43 +13,25 @@ use Rattle.dt_model.specs.Tensors.{dims_of}
 use Rattle.dt_model.specs.Verdicts.{tensor_number}
 use Rattle.dt_model.specs.Worlds.{updates_in}
 use Rattle.tns_io.specs.declared.faults.FileCause.TheVariants as because
-use Rattle.tns_io.specs.declared.faults.FileFault.{FileFault}
 use Rattle.tns_io.specs.Faults.{fault_at}
 use Rattle.tns_io.specs.Tns.{tns_of}
 use Rattle.script_read.specs.declared.items.Item.{Item}
-use Rattle.script_read.specs.declared.items.Item.TheVariants.{Schema, Tensor, Load, Session, Print}
+use Rattle.script_read.specs.declared.items.Item.TheVariants as a
 use Rattle.script_read.specs.Readings.{◌>>=◌, check, equals_text}
 use Rattle.script_read.specs.Manifests.{manifest_of}
 use Rattle.script_read.specs.Scripts.{script_of}
+use Rattle.schema_check.specs.Breaches.{checked}
+use Rattle.schema_check.specs.declared.breaches.Breach.{Breach}
+use Rattle.dyntensor.specs.declared.faults.Cause.TheVariants as the
 use Rattle.dyntensor.specs.declared.faults.Fault.{Fault}
-
--- the bytes of each file by its name
-abbrev pub Files : Type 0
-Files = List ℕ → List ℕ
-
--- ---- one file
-
--- a fault of a named file
-abbrev pub fault_in : List ℕ → FileFault → Fault
-fault_in file fault = record { file = file; line = fault.line; cause = fault.cause }
-
--- a reading of a file's text, whose fault names the file
-abbrev pub located : {X : Type 0} → List ℕ → Result X FileFault → Result X Fault
-located file (Ok x) = Ok x
-located file (Err fault) = Err (fault_in file fault)
-
--- the fault of a file that is too large: it has line 0
-abbrev pub too_large : List ℕ → Fault
-too_large file = fault_in file (fault_at 0 because.Limit)
-
--- the text of a file, if it is no longer than the limit
-abbrev pub text_in : Files → List ℕ → Result (List ℕ) Fault
-text_in files file = check (nat_le (length (files file)) FILE_LIMIT) (too_large file) >>= (λ _. Ok (files file))
+pub use Rattle.dyntensor.specs.Files.{Files, fault_in, located, too_large, text_in, schemas_of}
 
 -- ---- what the items of a manifest bring
 
--- the tensors, the loaded lines of each, the scripts with the count of their bytes, and the numbers of the tensors to print
+-- the schemas that were read, the tensors, the loaded lines of each, the scripts with the count of their bytes, and the
+-- numbers of the tensors to print
 pub record Gathered : Type 0 where
+  pub schemas : List Schema
   pub tensors : List TensorDecl
   pub base : List (List (List ℕ × ℕ))
   pub scripts : List (List Verdict)
@@ -56,11 +40,11 @@ pub record Gathered : Type 0 where
 
 -- nothing
 abbrev pub nothing : Gathered
-nothing = record { tensors = []; base = []; scripts = []; script_bytes = 0; printed = [] }
+nothing = record { schemas = []; tensors = []; base = []; scripts = []; script_bytes = 0; printed = [] }
 
--- the declarations: the schema `flat` and the tensors
+-- the declarations: the schema `flat` and those that were read, and the tensors
 abbrev pub decls_of : Gathered → Decls
-decls_of g = record { schemas = flat_schema ∷ []; tensors = g.tensors }
+decls_of g = record { schemas = flat_schema ∷ g.schemas; tensors = g.tensors }
 
 -- how many lines tensors have together
 abbrev pub lines_in : List (List (List ℕ × ℕ)) → ℕ
@@ -73,6 +57,10 @@ updates_of scripts = sum_by (λ script. sum_by updates_in script) scripts
 -- how many loaded lines and accepted updates there may still be
 abbrev pub lines_left : Gathered → ℕ
 lines_left g = MOST_LINES - (lines_in g.base + updates_of g.scripts)
+
+-- a schema more
+abbrev pub with_schema : Gathered → Schema → Gathered
+with_schema g s = record g { schemas = g.schemas ++ s ∷ [] }
 
 -- a tensor more, without lines; all its modes have schema number 0
 abbrev pub with_tensor : Gathered → List ℕ → List ℕ → ℕ → Gathered
@@ -99,6 +87,38 @@ with_print g t = record g { printed = g.printed ++ t ∷ [] }
 abbrev pub is_flat : List ℕ → Bool
 is_flat name = equals_text flat_name name
 
+-- whether a schema has this name: `flat`, or one that was read
+abbrev pub is_schema : Gathered → List ℕ → Bool
+is_schema g name = list_any (λ s. pointwise nat_eq s.name name) (flat_schema ∷ g.schemas)
+
+-- a schema that keeps the rules, or the fault of a line that it breaks one
+abbrev pub ruled : List ℕ → ℕ → Result Schema Breach → Result Schema Fault
+ruled manifest line (Ok s) = Ok s
+ruled manifest line (Err b) = Err (record { file = manifest; line = line; cause = the.Breach b })
+
+-- what a schema of a line's file adds: its name is new, it is one of the first 16, and it keeps the rules
+abbrev pub taken : List ℕ → ℕ → Gathered → Schema → Result Gathered Fault
+taken manifest line g s =
+    check (not (is_schema g s.name)) (fault_in manifest (fault_at line because.Twice)) >>= (λ _.
+    check (nat_lt (length g.schemas) MOST_SCHEMAS) (fault_in manifest (fault_at line because.Limit)) >>= (λ _.
+    ruled manifest line (checked s) >>= (λ sound. Ok (with_schema g sound))))
+
+-- what the schemas of a line's file add one after the other
+abbrev pub all_taken : List ℕ → ℕ → Gathered → List Schema → Result Gathered Fault
+all_taken manifest line g [] = Ok g
+all_taken manifest line g (s ∷ schemas) = taken manifest line g s >>= (λ more. all_taken manifest line more schemas)
+
+-- what a `schema` line adds: the schemas of its file
+abbrev pub with_schemas : Files → List ℕ → Gathered → ℕ → List ℕ → Result Gathered Fault
+with_schemas files manifest g line file = schemas_of files file >>= (λ schemas. all_taken manifest line g schemas)
+
+-- what a `tensor` line adds, where each of its schemas is one, and all are flat; others aren't built
+abbrev pub declared_tensor : List ℕ → Gathered → ℕ → List ℕ → List ℕ → List (List ℕ) → ℕ → Result Gathered Fault
+declared_tensor manifest g line name dims formats latches =
+    check (list_all (is_schema g) formats) (fault_in manifest (fault_at line because.Name)) >>= (λ _.
+    check (list_all is_flat formats) (fault_in manifest (fault_at line because.NotBuilt)) >>= (λ _.
+    Ok (with_tensor g name dims latches)))
+
 -- what a `load` line adds: the lines of its file
 abbrev pub loaded : Files → Gathered → List ℕ → List ℕ → Result Gathered Fault
 loaded files g name file = let t = tensor_number (decls_of g) name in
@@ -116,12 +136,11 @@ with_session files g file =
 
 -- what an item at a line of the manifest adds, or its fault
 abbrev pub with_item : Files → List ℕ → Gathered → ℕ → Item → Result Gathered Fault
-with_item files manifest g line (Schema file) = Ok g
-with_item files manifest g line (Tensor name dims formats latches) =
-    check (list_all is_flat formats.items) (fault_in manifest (fault_at line because.Name)) >>= (λ _. Ok (with_tensor g name dims latches))
-with_item files manifest g line (Load name file) = loaded files g name file
-with_item files manifest g line (Session file) = with_session files g file
-with_item files manifest g line (Print name) = Ok (with_print g (tensor_number (decls_of g) name))
+with_item files manifest g line (a.Schema file) = with_schemas files manifest g line file
+with_item files manifest g line (a.Tensor name dims formats latches) = declared_tensor manifest g line name dims formats.items latches
+with_item files manifest g line (a.Load name file) = loaded files g name file
+with_item files manifest g line (a.Session file) = with_session files g file
+with_item files manifest g line (a.Print name) = Ok (with_print g (tensor_number (decls_of g) name))
 
 -- what the items add one after the other, or the first fault
 abbrev pub with_items : Files → List ℕ → Gathered → List (ℕ × Item) → Result Gathered Fault

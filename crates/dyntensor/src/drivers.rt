@@ -14,8 +14,8 @@ use dt_model::NoMemory;
 use dt_outside::Shelf;
 use std::alloc::Global;
 
-/// The outcome of a workload that isn't read.
-fn stopped(alloc: Global, stop: Stop) -> Outcome
+/// The outcome of a command whose files aren't read.
+pub fn stopped(alloc: Global, stop: Stop) -> Outcome
     ensures value { IsOutcomeOf stop result }
 {
     match stop {

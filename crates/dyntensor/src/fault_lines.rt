@@ -1,11 +1,13 @@
-//! The line that says why a workload is refused.
-ghost use Rattle.std.specs.Prelude.{◌≡◌, ◌++◌, IfOk, OnOk};
+//! The line that says why a file is refused.
+ghost use Rattle.std.specs.Prelude.{◌≡◌, ◌++◌, ◌∷◌, IfOk, OnOk};
+ghost use Rattle.std.specs.Fmt.{decimal};
 ghost use Rattle.std.specs.List.{join_with_byte};
-ghost use Rattle.dyntensor.specs.FaultTexts.{refused_text, cause_words};
+ghost use Rattle.dyntensor.specs.FaultTexts.{refused_text, cause_words, breach_words, fault_words};
 
-use crate::faults::Fault;
+use crate::faults::{Cause, Fault};
 use dt_model::NoMemory;
 use dt_text::{append, write_number};
+use schema_check::Breach;
 use std::alloc::Global;
 use std::marker::Model;
 use tns_io::FileCause;
@@ -29,7 +31,7 @@ impl Model for FaultLine {
     ghost invariant = { λ l. l.text.items ≡ refused_text l.fault };
 }
 
-/// The words of a cause.
+/// The words of a line's cause.
 fn cause_text(cause: FileCause) -> &'static str
     ensures value { result.now ≡ join_with_byte 32 (cause_words cause) }
 {
@@ -47,6 +49,36 @@ fn cause_text(cause: FileCause) -> &'static str
     }
 }
 
+/// Appends a word and a number.
+fn write_placed(word: &str, number: u32, text: &mut Vec<u8>) -> Result<(), NoMemory>
+    ensures ok { OnOk result (text.new.items ≡ text.old.items ++ word.now ++ 32 ∷ decimal number) }
+{
+    append(text, word.as_bytes())?;
+    append(text, b" ")?;
+    write_number(number, text)
+}
+
+/// Appends the words of a broken rule.
+pub fn write_breach(breach: &Breach, text: &mut Vec<u8>) -> Result<(), NoMemory>
+    ensures ok { OnOk result (text.new.items ≡ text.old.items ++ join_with_byte 32 (breach_words breach.now)) }
+{
+    write_placed("breach", u32::from(breach.rule), text)?;
+    append(text, b" ")?;
+    append(text, breach.kind.bytes())
+}
+
+/// Appends the words of a fault's cause.
+fn write_cause(cause: &Cause, text: &mut Vec<u8>) -> Result<(), NoMemory>
+    ensures ok { OnOk result (text.new.items ≡ text.old.items ++ join_with_byte 32 (fault_words cause.now)) }
+{
+    match cause {
+        Cause::Line(cause) => append(text, cause_text(*cause).as_bytes()),
+        Cause::FormAt { column } => write_placed("form", *column, text),
+        Cause::LimitAt { column } => write_placed("limit", *column, text),
+        Cause::Breach(breach) => write_breach(breach, text),
+    }
+}
+
 /// The text of a fault.
 fn fault_text(alloc: Global, fault: &Fault) -> Result<Vec<u8>, NoMemory>
     ensures value { IfOk result (λ text. text.items ≡ refused_text fault.now) }
@@ -57,7 +89,7 @@ fn fault_text(alloc: Global, fault: &Fault) -> Result<Vec<u8>, NoMemory>
     append(&mut text, b" ")?;
     write_number(fault.line, &mut text)?;
     append(&mut text, b" ")?;
-    append(&mut text, cause_text(fault.cause).as_bytes())?;
+    write_cause(&fault.cause, &mut text)?;
     append(&mut text, b"\n")?;
     Ok(text)
 }

@@ -1,20 +1,22 @@
 //! What the items of a manifest bring, one after the other.
 ghost use Rattle.std.specs.Prelude.{◌≡◌, ◌<◌, ◌≤◌, ◌+◌, ◌++◌, ◌∷◌, [], length, map, sum_by, OnOk, IfOk, IfSome};
+ghost use Rattle.std.specs.List.{list_all};
 ghost use Rattle.dt_model.specs.declared.limits.TheConstants.{FILE_LIMIT, MOST_LINES, MOST_ORDER, MOST_TENSORS};
 ghost use Rattle.dt_model.specs.Tensors.{dims_of, tensor_named};
 ghost use Rattle.dt_model.specs.Verdicts.{tensor_number};
 ghost use Rattle.dt_model.specs.Worlds.{updates_in};
-ghost use Rattle.dyntensor.specs.Workload.{nothing, decls_of, with_tensor, with_lines, with_script, with_print, work_of, lines_left, updates_of, lines_in};
+ghost use Rattle.dyntensor.specs.Workload.{nothing, decls_of, is_schema, with_schema, with_tensor, with_lines, with_script, with_print, work_of, lines_left, updates_of, lines_in};
 
 use arrayvec::ArrayVec;
 use dt_model::{
     Call, Coords, Decls, List, MOST_LINES, MOST_ORDER, Name, NoMemory, Pairs, Schema, Scripts,
     TensorDecl, Verdict, Verdicts, World,
 };
+use schema_check::Checked;
 use std::alloc::Global;
 use std::marker::Model;
 
-/// The tensors, the loaded lines of each, the scripts and the tensors to print, as far as the items of
+/// The schemas, the tensors, the loaded lines of each, the scripts and the tensors to print, as far as the items of
 /// a manifest have been read. Contracts see them as `Gathered`.
 #[derive(Drop)]
 pub struct Gathering {
@@ -26,7 +28,7 @@ pub struct Gathering {
 }
 
 impl Model for Gathering {
-    ghost use Rattle.std.specs.Prelude.{◌≡◌, ◌∷◌, [], ◌≤◌};
+    ghost use Rattle.std.specs.Prelude.{◌≡◌, ◌∷◌, ◌≤◌, drop};
     ghost use Rattle.std.specs.Coded.{codes};
     ghost use Rattle.dt_model.specs.contracts.statements.Expr as expr;
     ghost use Rattle.dt_model.specs.declared.limits.TheConstants.{FILE_LIMIT};
@@ -37,9 +39,9 @@ impl Model for Gathering {
 
     ghost coded = { Prim.hlevel (codes, expr.the_row.coded) };
 
-    ghost view = { λ g. record { tensors = g.decls.tensors; base = g.base.items; scripts = g.scripts; script_bytes = g.script_bytes; printed = g.printed.items } };
+    ghost view = { λ g. record { schemas = drop 1 g.decls.schemas; tensors = g.decls.tensors; base = g.base.items; scripts = g.scripts; script_bytes = g.script_bytes; printed = g.printed.items } };
 
-    ghost invariant = { λ g. (g.decls.schemas ≡ flat_schema ∷ []) × (g.script_bytes ≤ FILE_LIMIT) };
+    ghost invariant = { λ g. (g.decls.schemas ≡ flat_schema ∷ drop 1 g.decls.schemas) × (g.script_bytes ≤ FILE_LIMIT) };
 }
 
 /// The number of `flat` for each mode.
@@ -145,6 +147,37 @@ impl Gathering {
         ensures value { result.now ≡ decls_of self.now }
     {
         &self.decls
+    }
+
+    /// Whether a schema has this name: `flat`, or one that was read. It takes time by the number of schemas.
+    pub fn is_schema(&self, name: &Name) -> bool
+        ensures value { result ≡ is_schema self.now name.now }
+    {
+        let schemas = self.decls.schemas.as_slice();
+        schemas
+            .iter()
+            .any(|schema| schema.name.bytes() == name.bytes())
+    }
+
+    /// Whether each of some names is that of a schema.
+    pub fn are_schemas(&self, names: &[Name]) -> bool
+        ensures value { result ≡ list_all (is_schema self.now) names.now }
+    {
+        names.iter().all(|name| self.is_schema(name))
+    }
+
+    /// How many schemas were read.
+    pub fn schema_count(&self) -> usize
+        ensures value { result ≡ length self.now.schemas }
+    {
+        self.decls.schemas.len() - 1
+    }
+
+    /// Adds a schema.
+    pub fn add_schema(&mut self, checked: &Checked) -> Result<(), NoMemory>
+        ensures ok { OnOk result (self.new ≡ with_schema self.old checked.now) }
+    {
+        Ok(self.decls.schemas.push(checked.schema().copy())?)
     }
 
     /// How many lines may still be loaded, or updates accepted.

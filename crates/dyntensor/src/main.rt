@@ -1,32 +1,39 @@
 //! The commands and their top calls.
 //!
-//! `top_run` runs the workload of a manifest and writes the report; `main` hands it the words, the
-//! real files and standard output.
-//! A clause of `top_run` sees the words as bytes, the files where the shelf exposes them, what was
-//! written where the sink exposes it, and both counts of faults. Read `specs/Workload.antt` first,
-//! then `specs/Outcome.antt`.
+//! `top_run` runs the workload of a manifest and writes the report, and `top_check` checks a file of
+//! schemas; `main` hands them the words, the real files and standard output.
+//! A clause sees the words as bytes, the files where the shelf exposes them, what was written where the
+//! sink exposes it, and both counts of faults. Read `specs/Workload.antt` first, then
+//! `specs/Outcome.antt`; for `top_check` read `specs/Checks.antt`.
 //! Lines, sessions and calls are counted from 1, tensors from 0. A file has at most `FILE_LIMIT`
 //! bytes, as have all scripts together; loaded lines and accepted updates are at most `MOST_LINES`.
-//! Not here: what the lines of a manifest or a script say (`script_read`) and those of data (`tns_io`),
+//! Not here: what the lines of a manifest or a script say (`script_read`), those of data (`tns_io`) and
+//! schemas (`schema_read`), which rules schemas keep (`schema_check`),
 //! how a call is made (`sessions`), what a real file or stream has (`dt_outside`).
 #![tactic(auto)]
 
+mod checks;
 mod commands;
 mod drivers;
 mod fault_lines;
 mod faults;
+mod fetching;
 mod gathering;
 mod outcomes;
 mod report_rows;
 mod runs;
+#[cfg(test)]
+mod schema_tests;
 mod stops;
 #[cfg(test)]
 mod tests;
 mod top;
+#[cfg(test)]
+mod wide_tests;
 mod workloads;
 
 use crate::outcomes::{Outcome, write_outcome};
-use crate::top::top_run;
+use crate::top::{top_check, top_run};
 use dt_model::{FILE_NAME_LIMIT, NoMemory};
 use dt_outside::{FileShelf, OpenGate, StreamSink};
 use std::env::{Env, FillError};
@@ -73,11 +80,20 @@ fn words_of(rt: &HostRuntime) -> Result<Vec<String>, NoMemory> {
     Ok(words)
 }
 
+/// Whether the first word is `check`.
+fn is_check(words: &[String]) -> bool {
+    match words {
+        [word, ..] => word.as_str() == "check",
+        [] => false,
+    }
+}
+
 /// Runs the program, and ends with its status.
 fn main(rt: HostRuntime) -> ExitCode {
     let mut shelf = FileShelf::new(rt);
     let mut sink = StreamSink::new(rt);
     let status = match words_of(&rt) {
+        Ok(words) if is_check(&words) => top_check(rt.alloc(), &words, &mut shelf, &mut sink),
         Ok(words) => top_run(rt.alloc(), &words, &mut shelf, &mut sink, &OpenGate),
         Err(NoMemory) => write_outcome(&mut sink, &Outcome::OutOfMemory),
     };

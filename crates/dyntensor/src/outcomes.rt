@@ -18,11 +18,13 @@ const NO_MEMORY: &[u8] = b"no memory\n";
 /// How a run ends, with what its text needs.
 #[derive(Drop)]
 pub enum Outcome {
-    /// The report.
+    /// The report of a run, or the rows of a check in which all schemas keep the rules.
     Report(Vec<u8>),
     /// The usage line.
     Usage,
-    /// The line of a fault of the workload.
+    /// The rows of a check in which a schema breaks a rule.
+    Breaches(Vec<u8>),
+    /// The line of a fault of what was read.
     Refused(FaultLine),
     /// The file that the shelf failed to give.
     Unfetched(FileName),
@@ -69,6 +71,7 @@ pub fn write_outcome<K: Sink>(sink: &mut K, outcome: &Outcome) -> u8
     match outcome {
         Outcome::Report(text) => write_text(sink, text.as_slice(), 0),
         Outcome::Usage => write_text(sink, USAGE, 1),
+        Outcome::Breaches(text) => write_text(sink, text.as_slice(), 2),
         Outcome::Refused(line) => write_text(sink, line.bytes(), 2),
         Outcome::Unfetched(file) => write_text(sink, shelf_line(file).as_slice(), 3),
         Outcome::OutOfMemory => write_text(sink, NO_MEMORY, 5),

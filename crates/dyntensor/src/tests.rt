@@ -13,7 +13,7 @@ const REPORT: &[u8] = b"session 1\n1 ok\n2 value 7\nhistory 2\n1 1\n1 2\n";
 const USAGE: &[u8] = b"usage: dyntensor run MANIFEST | check SCHEMAS | sample N\n";
 
 /// The words of a command line.
-fn words_of(alloc: Global, words: &[&str]) -> Result<Vec<String>, AllocError> {
+pub fn words_of(alloc: Global, words: &[&str]) -> Result<Vec<String>, AllocError> {
     let mut all = Vec::new(alloc);
     for word in words {
         all.push(String::from_str(alloc, word)?)?;
@@ -22,7 +22,7 @@ fn words_of(alloc: Global, words: &[&str]) -> Result<Vec<String>, AllocError> {
 }
 
 /// The status and the text of a run over these files.
-fn run(alloc: Global, files: &[(&str, &[u8])]) -> Result<(u8, Vec<u8>), Fail> {
+pub fn run(alloc: Global, files: &[(&str, &[u8])]) -> Result<(u8, Vec<u8>), Fail> {
     let mut shelf = SureShelf::new(alloc);
     for (name, bytes) in files {
         shelf.add(name, bytes)?;
@@ -49,8 +49,12 @@ fn a_report_is_written(rt: HostRuntime) -> Result<(), Fail> {
 
 #[test]
 fn scripts_print_their_reports(rt: HostRuntime) -> Result<(), Fail> {
-    let rows: [(&[u8], &[u8]); 12] = [
+    let rows: [(&[u8], &[u8]); 13] = [
         (SCRIPT, REPORT),
+        (
+            b"query a = (((((((((((((((((\n",
+            b"session 1\n1 refused limit 27\nhistory 0\n",
+        ),
         (b"", b"session 1\nhistory 0\n"),
         (
             b"set v 1 18446744073709551615\nadd v 1 2\nget v 1\n",
@@ -276,7 +280,7 @@ fn the_first_fault_names_its_file_and_line(rt: HostRuntime) -> Result<(), Fail> 
             b"tensor v 5 as flat latches 1\nsession s\nsession t\n",
             b"refused m 3 not built\n",
         ),
-        (b"schema q\n", b"refused m 1 not built\n"),
+        (b"schema q\n", b"refused q 1 form 1\n"),
         (b"tensor v 5 as flat\n", b"refused m 1 form\n"),
         (
             b"session s\ntensor v 5 as flat latches 1\n",

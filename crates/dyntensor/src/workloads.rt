@@ -2,43 +2,28 @@
 ghost use Rattle.std.specs.Prelude.{◌≡◌, ◌≤◌, ◌<◌, [], length, IfOk, IfErr, OnOk, IfSome, Ok, None, Some};
 ghost use Rattle.std.specs.List.{list_all};
 ghost use Rattle.dt_model.specs.Verdicts.{tensor_number};
-ghost use Rattle.dt_model.specs.declared.limits.TheConstants.{FILE_LIMIT};
+ghost use Rattle.dt_model.specs.declared.limits.TheConstants.{FILE_LIMIT, MOST_ORDER};
 ghost use Rattle.tns_io.specs.Faults.{fault_at};
 ghost use Rattle.script_read.specs.Sound.{AreSound};
 ghost use Rattle.script_read.specs.Manifests.{nothing as nothing_declared};
 ghost use Rattle.dyntensor.specs.Reached.{file_of};
-ghost use Rattle.dyntensor.specs.Workload.{text_in, located, is_flat, decls_of, loaded, with_session, with_tensor, with_item, with_items, items_in, workload, nothing, work_of};
-ghost use Rattle.dyntensor.specs.Readings.{HoldsOf, IsQuiet, IsFileStop, IsStop};
+ghost use Rattle.dyntensor.specs.Workload.{text_in, located, is_flat, decls_of, taken, all_taken, with_schemas, declared_tensor, loaded, with_session, with_item, with_items, items_in, workload, nothing, work_of};
+ghost use Rattle.dyntensor.specs.Readings.{HoldsOf, IsQuiet, IsFaultStop, IsFileStop, IsStop};
 ghost use Rattle.dyntensor.specs.Gathering.{CanAdd, IsRunnable};
 
-use crate::faults::{fault_in, too_large};
+use crate::faults::{Cause, Fault, fault_in, too_large};
+use crate::fetching::{fetch, fetch_schemas};
 use crate::gathering::Gathering;
 use crate::stops::{Stop, stop_in};
-use dt_model::{FILE_LIMIT, Name, World};
-use dt_outside::{FetchFault, Shelf};
+use dt_model::{Coords, FILE_LIMIT, MOST_SCHEMAS, Name, Schema, World};
+use dt_outside::Shelf;
+use schema_check::check;
 use script_read::{FileName, Item, Manifest, read_manifest, read_script};
 use std::alloc::Global;
 use tns_io::{FileCause, FileFault, read_tns};
 
 /// The name of the schema `flat`.
 const FLAT: &[u8] = b"flat";
-
-/// Fetches a file, and says why it did not come.
-fn fetch<S: Shelf>(alloc: Global, shelf: &mut S, file: &FileName) -> Result<Vec<u8>, Stop>
-    ensures quiet { OnOk result (IsQuiet (S.state shelf.old) (S.state shelf.new)) }
-    ensures short { IfOk result (λ text. length text.items ≤ FILE_LIMIT) }
-    ensures text { IfOk result (λ text. HoldsOf (S.state shelf.old).files (λ files. text_in files file.now ≡ Ok text.items)) }
-    ensures files { (S.state shelf.new).files ≡ (S.state shelf.old).files }
-    ensures stop { IfErr result (IsFileStop (S.state shelf.old) (S.state shelf.new) (Some file.now) (λ files. text_in files file.now)) }
-{
-    let mut text = Vec::new(alloc);
-    match shelf.fetch(file.text(), FILE_LIMIT, &mut text) {
-        Ok(()) => Ok(text),
-        Err(FetchFault::Failed) => Err(Stop::Unfetched(file.copy())),
-        Err(FetchFault::TooLarge) => Err(Stop::Refused(too_large(file))),
-        Err(FetchFault::NoMemory) => Err(Stop::NoMemory),
-    }
-}
 
 /// Reads the items of a manifest.
 fn read_items<S: Shelf>(alloc: Global, shelf: &mut S, manifest: &FileName) -> Result<Manifest, Stop>
@@ -106,11 +91,102 @@ fn add_session<S: Shelf>(
     }
 }
 
+/// Adds a schema of a line's file, where its name is new, it is one of the first 16, and it keeps the rules.
+fn take_schema(
+    gathering: &mut Gathering,
+    manifest: &FileName,
+    line: u32,
+    schema: &Schema,
+) -> Result<(), Stop>
+    ensures ok { OnOk result (taken manifest.now line gathering.old schema.now ≡ Ok gathering.new) }
+    ensures stop { IfErr result (IsFaultStop (taken manifest.now line gathering.old schema.now)) }
+{
+    if gathering.is_schema(&schema.name) {
+        let cause = FileCause::Twice;
+        return Err(Stop::Refused(fault_in(manifest, FileFault { line, cause })));
+    }
+    if gathering.schema_count() >= MOST_SCHEMAS {
+        let cause = FileCause::Limit;
+        return Err(Stop::Refused(fault_in(manifest, FileFault { line, cause })));
+    }
+    match check(schema) {
+        Ok(checked) => Ok(gathering.add_schema(&checked)?),
+        Err(breach) => Err(Stop::Refused(Fault {
+            file: manifest.copy(),
+            line,
+            cause: Cause::Breach(breach),
+        })),
+    }
+}
+
+/// Adds the schemas of a line's file, one after the other.
+fn take_schemas(
+    gathering: &mut Gathering,
+    manifest: &FileName,
+    line: u32,
+    schemas: &[Schema],
+) -> Result<(), Stop>
+    ensures ok { OnOk result (all_taken manifest.now line gathering.old schemas.now ≡ Ok gathering.new) }
+    ensures stop { IfErr result (IsFaultStop (all_taken manifest.now line gathering.old schemas.now)) }
+{
+    match schemas {
+        [] => Ok(()),
+        [schema, rest @ ..] => {
+            take_schema(gathering, manifest, line, schema)?;
+            take_schemas(gathering, manifest, line, rest)
+        }
+    }
+}
+
+/// Reads the schemas of a file into what was gathered.
+fn add_schemas<S: Shelf>(
+    alloc: Global,
+    shelf: &mut S,
+    manifest: &FileName,
+    gathering: &mut Gathering,
+    line: u32,
+    file: &FileName,
+) -> Result<(), Stop>
+    ensures quiet { OnOk result (IsQuiet (S.state shelf.old) (S.state shelf.new)) }
+    ensures schemas { OnOk result (HoldsOf (S.state shelf.old).files (λ files. with_schemas files manifest.now gathering.old line file.now ≡ Ok gathering.new)) }
+    ensures files { (S.state shelf.new).files ≡ (S.state shelf.old).files }
+    ensures stop { IfErr result (IsFileStop (S.state shelf.old) (S.state shelf.new) (Some file.now) (λ files. with_schemas files manifest.now gathering.old line file.now)) }
+{
+    let schemas = fetch_schemas(alloc, shelf, file)?;
+    take_schemas(gathering, manifest, line, schemas.as_slice())
+}
+
 /// Whether each of some schemas is `flat`.
 fn are_flat(names: &[Name]) -> bool
     ensures value { result ≡ list_all is_flat names.now }
 {
     names.iter().all(|name| name.bytes() == FLAT)
+}
+
+/// Adds a tensor, where each of its schemas is one and all are flat.
+fn declare_tensor(
+    alloc: Global,
+    gathering: &mut Gathering,
+    manifest: &FileName,
+    line: u32,
+    name: &Name,
+    dims: &Coords,
+    formats: &[Name],
+    latches: u32,
+) -> Result<(), Stop>
+    requires few { length dims.now ≤ MOST_ORDER }
+    ensures ok { OnOk result (declared_tensor manifest.now gathering.old line name.now dims.now formats.now latches ≡ Ok gathering.new) }
+    ensures stop { IfErr result (IsFaultStop (declared_tensor manifest.now gathering.old line name.now dims.now formats.now latches)) }
+{
+    if !gathering.are_schemas(formats) {
+        let cause = FileCause::Name;
+        return Err(Stop::Refused(fault_in(manifest, FileFault { line, cause })));
+    }
+    if !are_flat(formats) {
+        let cause = FileCause::NotBuilt;
+        return Err(Stop::Refused(fault_in(manifest, FileFault { line, cause })));
+    }
+    Ok(gathering.add_tensor(alloc, name, dims, latches)?)
 }
 
 /// Reads what an item of the manifest brings.
@@ -129,19 +205,22 @@ fn add_item<S: Shelf>(
     ensures stop { IfErr result (IsFileStop (S.state shelf.old) (S.state shelf.new) (file_of item.now) (λ files. with_item files manifest.now gathering.old line item.now)) }
 {
     match item {
-        Item::Schema { .. } => Ok(()),
+        Item::Schema { file } => add_schemas(alloc, shelf, manifest, gathering, line, file),
         Item::Tensor {
             name,
             dims,
             formats,
             latches,
-        } => {
-            if !are_flat(formats.as_slice()) {
-                let cause = FileCause::Name;
-                return Err(Stop::Refused(fault_in(manifest, FileFault { line, cause })));
-            }
-            Ok(gathering.add_tensor(alloc, name, dims, *latches)?)
-        }
+        } => declare_tensor(
+            alloc,
+            gathering,
+            manifest,
+            line,
+            name,
+            dims,
+            formats.as_slice(),
+            *latches,
+        ),
         Item::Load { name, file } => load(alloc, shelf, gathering, name, file),
         Item::Session { file } => add_session(alloc, shelf, gathering, file),
         Item::Print { name } => Ok(gathering.add_print(name)?),

@@ -24,8 +24,9 @@ use Rattle.dt_text.specs.declared.values.NumFault.{NumFault}
 use Rattle.dt_text.specs.declared.values.NumFault.TheVariants as value
 use Rattle.index_read.specs.declared.read.StmtFault.{StmtFault}
 use Rattle.index_read.specs.declared.read.StmtFault.TheVariants as fault
-use Rattle.index_read.specs.Meaning.{statement_in, AnswersReading}
+use Rattle.index_read.specs.Meaning.{statement_in, AnswersReading, Reads, StmtText}
 use Rattle.index_read.proofs.NamedStatements.{IsNamedStmt, statement_in-named}
+use Rattle.index_read.proofs.MeaningLemmas.{statement_in-reads}
 use Rattle.script_read.specs.declared.line_faults.LineFault.{LineFault}
 use Rattle.script_read.specs.declared.line_faults.LineFault.TheVariants as line
 use Rattle.script_read.specs.declared.verbs.Verb.{Verb}
@@ -89,6 +90,18 @@ pub written_query-fault : (before : ℕ) (line text : List ℕ) (f : StmtFault) 
     → AnswersReading (statement_in text) (Err f) → IsLineFault before f l → Gives (written_query before line) (Err l)
 written_query-fault before line text f l behind h k =
     subst (λ t. GivesQuery before (statement_in t) l) behind (fault_given before (statement_in text) f l h k)
+
+written_by : (before : ℕ) (text : List ℕ) (r : Result Stmt StmtFault) (stmt : Stmt) → Reads text r
+    → (stmt_behind before r >>= (λ s. Ok (written.Query s))) ≡ Ok (written.Query stmt) → StmtText text stmt
+written_by before text (Ok s) stmt h e = let same : s ≡ stmt = cc in subst (StmtText text) same h
+written_by before text (Err (fault.Form column)) stmt h e = absurd (let no : ⊥ = cc in no)
+written_by before text (Err (fault.Limit column)) stmt h e = absurd (let no : ⊥ = cc in no)
+written_by before text (Err fault.NoMemory) stmt h e = absurd (let no : ⊥ = cc in no)
+
+-- the query of a line is the statement that the bytes behind its verb write, by the grammar
+pub written_query-writes : (before : ℕ) (line : List ℕ) (stmt : Stmt) → written_query before line ≡ Ok (written.Query stmt) → StmtText (drop before line) stmt
+written_query-writes before line stmt e = written_by before (drop before line) (statement_in (drop before line)) stmt
+    (statement_in-reads (drop before line)) e
 
 -- ---- what is read names names
 

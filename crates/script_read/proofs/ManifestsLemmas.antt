@@ -99,7 +99,7 @@ negated false h = refl
 
 -- what a line that passes its tests may ask for
 may_ask : (d : Declared) (x : Item) (item : Item) → IsSoundLine (Whole x) → PassesTests d (Whole x) item → MayAsk d x
-may_ask d (Schema file) item h t = absurd (let no : ◌≡◌ {A = Bool} false true = t.built in cc)
+may_ask d (Schema file) item h t = no_session d t.order
 may_ask d (Tensor name dims formats latches) item h t = (h, record { fresh = negated (is_declared d name) t.fresh; early = no_session d t.order })
 may_ask d (Load name file) item h t = record { declared = t.known; early = no_session d t.order }
 may_ask d (Session file) item h t = no_session d t.built

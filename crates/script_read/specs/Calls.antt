@@ -90,7 +90,8 @@ written_get end (w ∷ ws) = written_name w >>= (λ n. written_coordinates ws >>
 
 -- ---- statements
 
--- the statement that was read, or why there is none, where so many bytes of the line are before its text
+-- the statement that was read, or why there is none, where so many bytes of the line are before its text; a statement in a
+-- text never is `NoMemory`, so the last case is there only because each value of the type has one
 abbrev pub stmt_behind : ℕ → Result Stmt StmtFault → Result Stmt Refusal
 stmt_behind before (Ok stmt) = Ok stmt
 stmt_behind before (Err (fault.Form column)) = Err (Form (before + column))

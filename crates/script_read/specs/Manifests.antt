@@ -40,13 +40,12 @@ is_declared d name = list_any (pointwise nat_eq name) d.tensors
 
 -- ---- the tests of a line, after what earlier lines declare
 
--- whether the program has the line's form: neither `schema` nor a second `session`
+-- whether the program has the line's form: all but a second `session`
 abbrev pub is_built : Declared → ItemLine → Bool
-is_built d (Whole (Schema file)) = false
 is_built d (Whole (Session file)) = d.sessions == 0
 is_built d line = true
 
--- whether a `tensor` or `load` line stands before each session
+-- whether a `schema`, `tensor` or `load` line stands before each session
 abbrev pub is_in_order : Declared → ItemLine → Bool
 is_in_order d (Whole (Session file)) = true
 is_in_order d (Whole (Print name)) = true

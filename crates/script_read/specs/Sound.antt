@@ -50,7 +50,7 @@ MayAsk d (Tensor name dims formats latches) = IsSoundTensor name dims formats.it
 MayAsk d (Load name file) = IsLoad d name
 MayAsk d (Session file) = d.sessions ≡ 0
 MayAsk d (Print name) = is_declared d name ≡ true
-MayAsk d (Schema file) = ⊥
+MayAsk d (Schema file) = d.sessions ≡ 0
 
 -- an item that may be asked for, and keeps the limits
 pub record IsSoundItem (d : Declared) (item : Item) : Type 0 where

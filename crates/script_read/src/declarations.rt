@@ -47,13 +47,12 @@ impl Declared {
         ensures value { result ≡ is_built self.now line.now }
     {
         match line {
-            ItemLine::Whole(Item::Schema { .. }) => false,
             ItemLine::Whole(Item::Session { .. }) => self.sessions == 0,
             _ => true,
         }
     }
 
-    /// Whether a `tensor` or `load` line stands before each session.
+    /// Whether a `schema`, `tensor` or `load` line stands before each session.
     fn is_in_order(&self, line: &ItemLine) -> bool
         ensures value { result ≡ is_in_order self.now line.now }
     {

@@ -78,12 +78,12 @@ fn is_tensor(item: &Item, name: &[u8], dims: &[u32], latches: u32) -> bool {
 #[test]
 fn items_come_with_the_numbers_of_their_lines(rt: HostRuntime) {
     let text =
-        b"# a small graph\r\n\n tensor\tv 5 as flat latches 1\r\ntensor T 1 2 3 4 4294967295 as flat flat flat flat flat latches 256\n\t# files\nload v v.tns\nprint T\nsession s\nprint v";
+        b"# a small graph\r\n\n tensor\tv 5 as flat latches 1\r\ntensor T 1 2 3 4 4294967295 as flat flat flat flat flat latches 256\n\t# files\nload v v.tns\nschema q\nprint T\nsession s\nprint v";
     match items_of(&rt, text) {
         Err(_) => assert!(rt; false),
         Ok(items) => {
-            assert_eq!(rt; items.len(), 6);
-            for (place, line) in [(0, 3), (1, 4), (2, 6), (3, 7), (4, 8), (5, 9)] {
+            assert_eq!(rt; items.len(), 7);
+            for (place, line) in [(0, 3), (1, 4), (2, 6), (3, 7), (4, 8), (5, 9), (6, 10)] {
                 let same = match items.get(place) {
                     Some((number, _)) => *number == line,
                     None => false,
@@ -104,15 +104,19 @@ fn items_come_with_the_numbers_of_their_lines(rt: HostRuntime) {
                 }
                 _ => false,
             };
-            let session = match items.get(4) {
+            let schema = match items.get(3) {
+                Some((_, Item::Schema { file })) => file.bytes() == b"q".as_slice(),
+                _ => false,
+            };
+            let session = match items.get(5) {
                 Some((_, Item::Session { file })) => file.bytes() == b"s".as_slice(),
                 _ => false,
             };
-            let print = match items.get(5) {
+            let print = match items.get(6) {
                 Some((_, Item::Print { name })) => name.bytes() == b"v".as_slice(),
                 _ => false,
             };
-            assert!(rt; first && second && load && session && print);
+            assert!(rt; first && second && load && schema && session && print);
         }
     }
 }
@@ -137,9 +141,12 @@ fn each_cause_of_a_manifest_and_which_of_two_comes_first(rt: HostRuntime) {
         (b"print\nprint v", 1, FileCause::Form),
         (b"load v", 1, FileCause::Form),
         (b"session \xff", 1, FileCause::Form),
+        (b"schema q r", 1, FileCause::Form),
+        (b"schema", 1, FileCause::Form),
         // form before not built, order, name, twice and range
         (b"session s\nsession s t", 2, FileCause::Form),
         (b"session s\nload w", 2, FileCause::Form),
+        (b"session s\nschema", 2, FileCause::Form),
         (b"print w w", 1, FileCause::Form),
         (
             b"tensor v 5 as flat latches 1\ntensor v 5 as flat latch 1",
@@ -147,15 +154,14 @@ fn each_cause_of_a_manifest_and_which_of_two_comes_first(rt: HostRuntime) {
             FileCause::Form,
         ),
         (b"tensor v 0 as flat latches x", 1, FileCause::Form),
-        // not built, and before order
-        (b"schema q", 1, FileCause::NotBuilt),
+        // not built
         (
             b"tensor v 5 as flat latches 1\nsession s\nsession t",
             3,
             FileCause::NotBuilt,
         ),
-        (b"session s\nschema q", 2, FileCause::NotBuilt),
         // order, and before name, twice and range
+        (b"session s\nschema q", 2, FileCause::Order),
         (
             b"session s\ntensor v 5 as flat latches 1",
             2,

@@ -1,6 +1,7 @@
 use Rattle.std.proofs.Common.{Global, sym, ◌∙◌, arith}
 use Rattle.std.specs.Prelude.{map, string_bytes}
 use Rattle.dyntensor.specs.Commands.{manifest_named}
+use Rattle.dyntensor.specs.Outcome.{HasCause}
 use Rattle.dyntensor.proofs.OutcomeLemmas.{ends_from, status_few, sink_rose, sink_quiet, own_status, own_unless_rose, headline_in, usage_in, shelf_rose, completes_in}
 use Rattle.dyntensor.proofs.top.top_run.Goals as goal
 
@@ -15,7 +16,7 @@ returns g c =
     let before = g.K.Sink.faults c.args.sink.now in
     let after = g.K.Sink.faults c.write_outcome.new.sink in
     let status = c.write_outcome.result in
-    let e = ends_from words shelf new_shelf c.outcome_of-outcome.result status old new before after c.outcome_of-outcome.ensures.cause
+    let e = ends_from (HasCause manifest shelf new_shelf) c.outcome_of-outcome.result status old new before after c.outcome_of-outcome.ensures.cause
     c.write_outcome.ensures.written in
     record {
       headline = λ zero. headline_in status old new before after e.outcome manifest shelf new_shelf e.cause e.printed zero;

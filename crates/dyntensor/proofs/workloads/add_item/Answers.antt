@@ -1,23 +1,28 @@
-use Rattle.std.proofs.Common.{◌≡◌, Ok, sym, ◌∙◌, ap, true}
-use Rattle.std.specs.List.{list_all}
-use Rattle.tns_io.specs.declared.faults.FileCause.TheVariants as because
-use Rattle.tns_io.specs.Faults.{fault_at}
-use Rattle.script_read.specs.Readings.{◌>>=◌, check}
-use Rattle.dyntensor.specs.Workload.{with_item, with_tensor, fault_in, is_flat}
+use Rattle.std.proofs.Common.{◌≡◌, List, ℕ, Result, Ok, Err, sym, ◌∙◌, ap}
+use Rattle.std.specs.Prelude.{OnOk}
+use Rattle.dyntensor.specs.Workload.{declared_tensor, with_item}
+use Rattle.dyntensor.specs.Readings.{HoldsOf}
 use Rattle.dyntensor.proofs.ReadingsLemmas.{HoldsOf-always}
 use Rattle.dyntensor.proofs.workloads.add_item.Goals as goal
 
-pub returns-in_ok-add_tensor-in-Tensor-clause-item : goal.returns-in_ok-add_tensor-in-Tensor-clause-item
-returns-in_ok-add_tensor-in-Tensor-clause-item g c =
-    let flat : list_all is_flat c.in-Tensor.formats.items ≡ true = ap (list_all is_flat) (sym c.as_slice.ensures.value) ∙ sym c.are_flat.ensures.value
-    ∙ c.if-not-are_flat.false in
-    HoldsOf-always (g.S.Shelf.state c.args.shelf.now).files
-    (λ files. with_item files c.args.manifest.now c.args.gathering.now c.args.line c.args.item.now ≡ Ok c.add_tensor.new.self)
-    (λ files.
-    ap (λ item. with_item files c.args.manifest.now c.args.gathering.now c.args.line item) c.in-Tensor.is
-    ∙ ap (λ b. check b (fault_in c.args.manifest.now (fault_at c.args.line because.Name)) >>=
-    (λ _. Ok (with_tensor c.args.gathering.now c.in-Tensor.name c.in-Tensor.dims c.in-Tensor.latches))) flat
-    ∙ ap Ok (sym c.in_ok-add_tensor-in-Tensor.ensures.ok))
+-- what follows at a success
+on_success : {A E : Type 0} (r : Result A E) (P Q : Type 0) → (P → Q) → OnOk r P → OnOk r Q
+on_success (Ok x) P Q f h = f h
+on_success (Err e) P Q f h = tt
+
+pub returns-in-Tensor-clause-item : goal.returns-in-Tensor-clause-item
+returns-in-Tensor-clause-item g c =
+    let manifest = c.args.manifest.now in
+    let old = c.args.gathering.now in
+    let line = c.args.line in
+    let new = c.declare_tensor.new.gathering in
+    let t = c.in-Tensor in
+    on_success c.declare_tensor.result (declared_tensor manifest old line t.name t.dims c.as_slice.result.now t.latches ≡ Ok new)
+    (HoldsOf (g.S.Shelf.state c.args.shelf.now).files (λ files. with_item files manifest old line c.args.item.now ≡ Ok new))
+    (λ made. HoldsOf-always (g.S.Shelf.state c.args.shelf.now).files (λ files. with_item files manifest old line c.args.item.now ≡ Ok new)
+    (λ files. ap (λ item. with_item files manifest old line item) t.is
+    ∙ ap (λ (fs : List (List ℕ)). declared_tensor manifest old line t.name t.dims fs t.latches) (sym c.as_slice.ensures.value) ∙ made))
+    c.declare_tensor.ensures.ok
 
 pub returns-in_ok-add_print-in-Print-clause-item : goal.returns-in_ok-add_print-in-Print-clause-item
 returns-in_ok-add_print-in-Print-clause-item g c =

@@ -1,7 +1,7 @@
 use Rattle.std.proofs.Common.{subst}
 use Rattle.std.specs.Prelude.{IfSome, ◌≡◌}
 use Rattle.dyntensor.proofs.ReadingsLemmas.{fetched}
-use Rattle.dyntensor.proofs.workloads.fetch.Goals as goal
+use Rattle.dyntensor.proofs.fetching.fetch.Goals as goal
 
 pub returns-in-Ok-clause-text : goal.returns-in-Ok-clause-text
 returns-in-Ok-clause-text g c =
