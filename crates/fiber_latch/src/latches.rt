@@ -19,6 +19,11 @@ use dt_model::{Entry, Journal, Keep, NoMemory, World};
 use std::alloc::Global;
 use std::marker::Model;
 use std::sync::Wait;
+use std::thread;
+
+/// How often a take that finds its latch held tries again before it parks. Each time it lets another thread run first,
+/// which takes about a microsecond: in all about as long as four parks with their wakes.
+const TRIES_BEFORE_PARK: u32 = 32;
 
 /// A table of latches: one for each fiber, in order of latches, and the journal's behind them.
 #[derive(Drop)]
@@ -145,23 +150,39 @@ impl<C: Keep> Latches<C> {
         )
     }
 
+    /// Waits for a latch that was found held by this session, before it is tried again: the first few times it only lets
+    /// another thread run.
+    fn wait<R: Wait>(&self, rt: &R, latch: u32, holder: u32, tries: u32)
+        requires latch { latch ≤ self.now.config.end }
+    {
+        if tries < TRIES_BEFORE_PARK {
+            thread::yield_now();
+        } else {
+            self.table.shared.park(rt, latch as usize, holder);
+        }
+    }
+
     /// Takes a latch for one of the seat's sessions, and waits while another seat's session holds it. Latches are taken
     /// in ascending order, the journal's last. It takes no memory, and no clause bounds how long it waits.
     ///
-    /// It parks on the latch's word and doesn't spin, since a holder may keep a latch over a whole call. It tells `park`
-    /// the holder that its try found: the thread sleeps only while the word is still that holder. A give changes the
-    /// word before it wakes, so no wake is lost between the try and the park. Then it tries again.
+    /// A take that finds the latch held tries `TRIES_BEFORE_PARK` times more, and lets another thread run before each.
+    /// Most holders give a latch back within a microsecond, and a park with its wake takes about eight. Some keep it
+    /// over a whole call, so then it parks on the latch's word. It tells `park` the holder that its try found: the
+    /// thread sleeps only while the word is still that holder. A give changes the word before it wakes, so no wake is
+    /// lost between the try and the park. A take that was woken tries again, and else parks at once.
     pub fn take<R: Wait>(&self, rt: &R, seat: &mut Seat<C>, session: u32, latch: u32) -> Kept<C>
         requires table { BelongsTo seat.old self.now }
         requires session { (seat.old.first ≤ session) × (session ≤ seat.old.last) }
         requires latch { (latch ≤ self.now.config.end) × IsAboveAll (λ h. h.0) latch seat.old.held }
         ensures value { IsTakenAfterTries (GoodAt C.content C.sound) latch session seat.old result seat.new }
     {
+        let mut tries: u32 = 0;
         for _ in rt.forever() {
             match self.try_take(seat, session, latch) {
                 Ok(kept) => return kept,
-                Err(busy) => self.table.shared.park(rt, latch as usize, busy.holder),
+                Err(busy) => self.wait(rt, latch, busy.holder, tries),
             }
+            tries = tries.saturating_add(1);
         }
         unreachable!()
     }

@@ -4,9 +4,9 @@
 //! and `give`; `split` and `join` cut seats and put them together; `close` hands out the stores and the journal.
 //! Clauses see a seat as a `SeatState`: read `specs/Seats.antt` first, `specs/Rule.antt` for what holds of the
 //! table between any two atomic steps, and `specs/Kinds.antt` for what each kind of step does to the latch machine.
-//! A `take` that finds its latch held parks, and doesn't spin: a session may hold a latch over a whole call, and the
-//! processor is better used by the thread that holds it. It parks on the latch's word only while that word is still
-//! the holder that it found. So a give between the try and the park changes the word, and no wake is lost.
+//! A `take` that finds its latch held tries again a few times, since most latches are held for less than a microsecond.
+//! Then it parks, since a session may also hold a latch over a whole call. It parks on the latch's word only while that
+//! word is still the holder that it found. So a give between the try and the park changes the word, and no wake is lost.
 //! Latches count from 0, in order of tensors and fibers, and the journal's latch comes last. Sessions and the numbers
 //! of calls count from 1: at most 16 sessions with at most 65,536 calls each.
 //! Not here: what a store is (any type with `Keep`), and which latches a call needs (`needs` of `dt_model`).

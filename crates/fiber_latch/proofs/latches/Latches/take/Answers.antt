@@ -1,5 +1,5 @@
 use Rattle.std.proofs.Common.{ℕ, List, [], ◌∷◌, ◌++◌, ◌≡◌, refl, sym, ap, ◌∙◌, subst, ⊎_elim}
-use Rattle.std.proofs.lemmas.List.{append_assoc}
+use Rattle.std.proofs.lemmas.List.{append_assoc, append-nil}
 use Rattle.fiber_latch.specs.Seats.{SeatState, IsHeldBy}
 use Rattle.fiber_latch.specs.Views.{IsAboveAll, In}
 use Rattle.fiber_latch.proofs.ViewsLemmas.{in_append}
@@ -10,6 +10,14 @@ try_take-requires-clause-latch g c = (
   c.requires.latch.0,
   subst (λ (x : SeatState). IsAboveAll (λ (h : ℕ × ℕ). h.0) c.args.latch x.held) (sym c.loop.invariant.1) c.requires.latch.1,
 )
+
+pub loop-init : goal.loop-init
+loop-init g c =
+    let old : SeatState = c.args.seat.now in (
+      [],
+      ap (λ (m : List (ℕ × ℕ)). record old { conflicts = m }) (sym (append-nil old.conflicts)),
+      λ p i. absurd i,
+    )
 
 pub loop-preserved : goal.loop-preserved
 loop-preserved g c =
