@@ -4,7 +4,8 @@
 Makes the workloads of bench/workloads.py, of all families or of those that are named, and runs the program on each. With
 --against it runs that command on the same files in turn, and prints the ratios. Each workload is run TURNS times, the
 turns of all workloads of a family interleaved, so that a ratio is of one stretch of time. A run that is short is made
-several times in a row. A run whose output isn't right to the byte stops the bench.
+several times in a row. A run whose output isn't right to the byte stops the bench. Of several sessions the first run of each
+program is checked by its own history, and the later ones for their status and their count of lines.
 """
 
 import filecmp
@@ -21,6 +22,7 @@ from workloads import FAMILIES
 
 HERE = Path(__file__).resolve().parent
 PROGRAM = HERE.parent / "crates/dyntensor/out/dyntensor"
+CHECK_REPORT = HERE.parent / "tools/check_report.py"
 TURNS = 5
 ROW_SECONDS = 0.3
 MOST_IN_A_ROW = 20
@@ -52,10 +54,38 @@ def timed_run(program, folder):
     status, seconds, peak = run_once([program, "run", "m"], folder)
     if status == 2 and (folder / "printed").read_bytes().endswith(b" not built\n"):
         raise NotBuilt
-    if status != 0 or not filecmp.cmp(folder / "printed", folder / "report", shallow=False):
+    if status != 0 or not is_right(folder):
         sys.exit(f"{folder.name}: {program} ended with status {status}, or printed something else than it has to")
-    filecmp.clear_cache()
     return seconds, peak
+
+
+def is_right(folder):
+    """Whether a run printed the report. Where there is none to compare with, see whether it printed as many lines."""
+    if (folder / "report").exists():
+        filecmp.clear_cache()
+        return filecmp.cmp(folder / "printed", folder / "report", shallow=False)
+    return not (folder / "lines").exists() or lines_in(folder) == int((folder / "lines").read_text())
+
+
+def lines_in(folder):
+    """The lines of the report before the first tensor's, whose nonzeros depend on the order of the calls."""
+    count = 0
+    with open(folder / "printed", "rb") as printed:
+        for line in printed:
+            if line.startswith(b"tensor "):
+                break
+            count += 1
+    return count
+
+
+def check_history(program, folder):
+    """Checks what a run of several sessions printed by its own history, in a process of its own."""
+    if (folder / "report").exists():
+        return
+    said = subprocess.run([sys.executable, "-B", CHECK_REPORT, folder, "m", folder / "printed"], stdout=subprocess.PIPE, text=True)
+    if said.returncode != 0:
+        sys.exit(f"{folder.name}: {program} printed a report that isn't true: {said.stdout.strip()}")
+    (folder / "lines").write_text(str(lines_in(folder)))
 
 
 def peak_of(command, folder):
@@ -78,6 +108,7 @@ def measured(programs, folders):
     for which, program in enumerate(programs):
         for folder in folders:
             seconds, peak = timed_run(program, folder)
+            check_history(program, folder)
             counts[which, folder] = max(1, min(MOST_IN_A_ROW, round(ROW_SECONDS / seconds)))
             peaks[which, folder] = peak_of([program, "run", "m"], folder) or peak
     turns = {it: [] for it in counts}
