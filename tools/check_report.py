@@ -6,7 +6,8 @@ sessions of a run take turns in any order, so the report says which: this makes 
 tools/replay.py, and compares every line. It prints `true`, or the first thing that is wrong, and ends with status 1 then.
 
 A history is right if each turn is that of an accepted call and stands once, if the turns of each session ascend, and if no
-accepted get is left out. A batch or query that is left out has the row `no memory`.
+accepted get is left out. A batch or query that is left out has the row `no memory`; how many those are is printed, too, since
+there are none where memory is ample.
 """
 
 import sys
@@ -35,7 +36,7 @@ def history_of(text):
 
 
 def check_history(turns, verdicts):
-    """Whether the turns are an order of accepted calls, with every get."""
+    """Whether the turns are an order of accepted calls, with every get. Gives the number of other accepted calls that are left out."""
     last = {}
     for session, number in turns:
         script = verdicts[session - 1] if 1 <= session <= len(verdicts) else []
@@ -44,34 +45,37 @@ def check_history(turns, verdicts):
         if number <= last.get(session, 0):
             raise Wrong(f"turn {session} {number}: behind turn {session} {last[session]}")
         last[session] = number
-    made = set(turns)
+    made, left_out = set(turns), 0
     for session, script in enumerate(verdicts, 1):
         for number, verdict in enumerate(script, 1):
-            if verdict[0] == "get" and not isinstance(verdict, str) and (session, number) not in made:
-                raise Wrong(f"turn {session} {number}: a get that isn't in the history")
+            if not isinstance(verdict, str) and (session, number) not in made:
+                if verdict[0] == "get":
+                    raise Wrong(f"turn {session} {number}: a get that isn't in the history")
+                left_out += 1
+    return left_out
 
 
 def check(files, manifest, text, not_built=replay.NOT_BUILT):
-    """Raises Wrong if the text isn't a true report of this run. Gives the history."""
+    """Raises Wrong if the text isn't a true report of this run. Gives the history, and how many calls found no memory."""
     turns = history_of(text)
     scripts = replay.Run(files, not_built)
     for item in list(scripts.read_manifest(manifest)):
         scripts.prepare(manifest, *item)
-    check_history(turns, scripts.verdicts)
+    left_out = check_history(turns, scripts.verdicts)
     wanted = replay.Run(files, not_built).report(manifest, turns)
     if wanted != text:
         pairs = zip(wanted.split(b"\n"), text.split(b"\n"))
         place, (want, found) = next((it for it in enumerate(pairs, 1) if it[1][0] != it[1][1]), (0, (b"", b"another length")))
         raise Wrong(f"line {place}: {found[:80]!r}, and it has to be {want[:80]!r}")
-    return turns
+    return turns, left_out
 
 
 if __name__ == "__main__":
     if len(sys.argv) != 4:
         sys.exit("usage: check_report.py FOLDER MANIFEST REPORT")
     try:
-        check(Path(sys.argv[1]), sys.argv[2].encode(), Path(sys.argv[3]).read_bytes())
+        _, left_out = check(Path(sys.argv[1]), sys.argv[2].encode(), Path(sys.argv[3]).read_bytes())
     except Wrong as why:
         print(why)
         sys.exit(1)
-    print("true")
+    print(f"true, with {left_out} calls that found no memory" if left_out else "true")

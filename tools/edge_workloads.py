@@ -71,7 +71,7 @@ def manifests():
     yield "limit, then form", padded(b"put", 4097) + b"\n"
     yield "form, then order", b"session s\ntensor v 5 as flat\n"
     yield "form, then name", b"load w t 1\n"
-    yield "not built, then order", V + b"session s\nschema q\n"
+    yield "a schema behind a session", V + b"session s\nschema q\n"
     yield "second session", V + b"session s\nsession s\n"
     yield "order, then name", b"session s\nload w t\n"
     yield "order, then twice", V + b"session s\n" + V

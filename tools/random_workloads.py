@@ -3,8 +3,9 @@
 
 Makes COUNT workloads (1,000 if left out) from SEED: manifests, scripts and .tns files that are well formed, that have
 something broken in them, or that are random bytes. It runs PROGRAM on each (crates/dyntensor/out/dyntensor if left out)
-and compares status and output with what tools/replay.py says. It prints each workload that differs, with its number,
-and ends with status 1 if there is one. It is no part of the gate.
+and compares status and output with what tools/replay.py says. Where several sessions take turns, the order is free: the
+report is judged by tools/check_report.py then, and no call may have found no memory. It prints each workload that differs,
+with its number, and ends with status 1 if there is one. It is no part of the gate.
 
 A workload is made from SEED and its number alone. These words may stand in front:
 
@@ -22,6 +23,7 @@ import sys
 import tempfile
 from pathlib import Path
 
+import check_report
 import replay
 from random_statements import Maker as Statements
 from stored_runs import first_difference
@@ -65,8 +67,7 @@ class Maker:
         if self.breaks(0.1):
             lines.append(self.chance.choice([b"load v", b"load w t0.tns", b"schema q", b"loads", b"load v \xff", b"print", b"tensor", b"load v gone"]))
         if self.odds(0.9):
-            self.files[b"s"] = self.file(self.script_line)
-            lines += [b"session s"] * (2 if self.breaks(0.05) else 1)
+            lines += self.session_lines()
         lines += [b"print " + self.chance.choice(names) for _ in range(self.chance.choice([0, 1, 1, 2, 65 if self.breaks(0.05) else 3]) if names else 0)]
         if self.breaks(0.1):
             self.chance.shuffle(lines)
@@ -76,6 +77,16 @@ class Maker:
         if self.breaks(0.05) and self.files.keys() - {b"m"}:
             self.files.pop(self.chance.choice(sorted(self.files.keys() - {b"m"})))
         return self.files, self.words()
+
+    def session_lines(self):
+        """The lines of some sessions, whose scripts are made; one where a second isn't built. Two may have one script."""
+        if "session" in self.not_built:
+            count = 2 if self.breaks(0.05) else 1
+        else:
+            count = 17 if self.breaks(0.03) else self.chance.choice([1, 2, 2, 3, 4, 16])
+        names = [b"s%d" % self.chance.randint(1, count) for _ in range(count)] if self.odds(0.2) else [b"s%d" % it for it in range(1, count + 1)]
+        self.files.update({name: self.file(self.script_line) for name in sorted({*names})})
+        return [b"session " + name for name in names]
 
     def words(self):
         return self.chance.choice([[], [b"run"], [b"run", b"x" * 256], [b"go", b"m"], [b"run", b"m", b"m"], [b"run", b"gone"]]) if self.breaks(0.02) else [b"run", b"m"]
@@ -220,34 +231,49 @@ def made(number, seed, not_built, verbs, is_statements):
 
 
 def compared(program, number, how, room):
-    """What the program and the replayer answer on one workload."""
+    """What the program and the replayer answer on one workload, and what is wrong with the program's answer; None where nothing is."""
     files, words = made(number, *how)
     make_files(room, files)
-    return ran(program, words, room), replay.run(words, room, how[1])
+    found, wanted = ran(program, words, room), replay.run(words, room, how[1])
+    return found, wanted, None if found == wanted else difference(found, wanted, words, room, how[1])
+
+
+def difference(found, wanted, words, room, not_built):
+    """What is wrong with an answer other than the replayer's, which makes one session's calls after the other's."""
+    is_free = found[0] == wanted[0] == 0 and words[0] == b"run" and wanted[1].count(b"session ") > 1
+    if not is_free:
+        return f"line {first_difference(found[1], wanted[1])}"
+    try:
+        _, left_out = check_report.check(room, words[1], found[1], not_built)
+    except check_report.Wrong as why:
+        return str(why)
+    return f"{left_out} calls found no memory" if left_out else None
 
 
 def one(program, number, how):
     room = Path(tempfile.mkdtemp(prefix=f"workload-{number}-"))
-    found = compared(program, number, how, room)
+    found, wanted, why = compared(program, number, how, room)
     print(f"the files are in {room}")
-    for who, (status, text) in zip(("the program", "the replayer"), found):
+    for who, (status, text) in zip(("the program", "the replayer"), (found, wanted)):
         print(f"{who} ends with status {status}:\n{text.decode(errors='replace')}")
-    return 0 if found[0] == found[1] else 1
+    print(f"it differs: {why}" if why else "they agree")
+    return 1 if why else 0
 
 
 def many(program, count, how):
-    ends, rows, differ = {}, {}, 0
+    ends, rows, differ, others = {}, {}, 0, 0
     for number in range(1, count + 1):
         with tempfile.TemporaryDirectory() as room:
-            found, wanted = compared(program, number, how, Path(room))
+            found, wanted, why = compared(program, number, how, Path(room))
         ends[wanted[0]] = ends.get(wanted[0], 0) + 1
         for word in re.findall(rb"^\d+ (ok|value|result|refused \w+)", wanted[1], re.M):
             rows[word.decode()] = rows.get(word.decode(), 0) + 1
-        if found != wanted:
+        others += found != wanted and not why
+        if why:
             differ += 1
-            print(f"workload {number} differs in line {first_difference(found[1], wanted[1])}: --only {number} shows it")
+            print(f"workload {number} differs ({why}): --only {number} shows it")
     by_status = ", ".join(f"{times} with status {status}" for status, times in sorted(ends.items()))
-    print(f"{count} workloads from seed {how[0]}: {differ} differ; {by_status}")
+    print(f"{count} workloads from seed {how[0]}: {differ} differ; {by_status}; {others} true reports in another order than session by session")
     print("lines: " + ", ".join(f"{times} {row}" for row, times in sorted(rows.items())))
     return 1 if differ else 0
 

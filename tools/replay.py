@@ -18,7 +18,7 @@ from replay_schemas import read_schemas
 from replay_statements import LineRefused, read_statement
 from schema_rules import breach
 
-NOT_BUILT = {"structures", "session", "batch"}
+NOT_BUILT = {"structures"}
 USAGE = b"usage: dyntensor run MANIFEST | check SCHEMAS | sample N\n"
 MODULUS = 2**64
 FILE_LIMIT = 67_108_864

@@ -7,7 +7,10 @@
 # .antt file of any crate, no folder of such files and not crates.txt has a later file time. Otherwise the program is run as
 # it is before any proof. Standard error says which of the two it was. With --prove it is proved and built first.
 #
-# It ends with status 0 if the program ended with the stored status, and with 1 if it didn't.
+# Where FOLDER has a file any_order, several sessions take turns in any order. The report of this very run is judged then, by
+# tools/check_report.py: it makes the calls of the printed history on one thread, and compares every line.
+#
+# It ends with status 0 if the program ended with the stored status and no report was judged to be wrong, and with 1 otherwise.
 set -eu
 shopt -s nullglob
 top=$(realpath "$(dirname "$0")/..")
@@ -42,9 +45,7 @@ run_proved() {
 }
 
 run_before_proof() {
-    local files=() file log status
-    log=$(mktemp)
-    trap "rm -f '$log'" EXIT
+    local files=() file status log=$room/log
     echo "run.sh: this is the program before any proof; tools/run.sh --prove builds the proved one" >&2
     for file in "$folder"/data/*; do
         files+=(--data "$(basename "$file")=$file")
@@ -66,6 +67,13 @@ wanted=$(cat "$folder/status" 2>/dev/null || echo 0)
 
 cd "$top/crates/dyntensor"
 [ -z "$is_to_prove" ] || prove
+room=$(mktemp -d)
+trap 'rm -rf "$room"' EXIT
 status=0
-if is_for_these_sources; then run_proved || status=$?; else run_before_proof || status=$?; fi
+if is_for_these_sources; then run_proved || status=$?; else run_before_proof || status=$?; fi >"$room/report"
+cat "$room/report"
 [ "$status" = "$wanted" ] || fail "it ended with status $status, and not $wanted"
+if [ -f "$folder/any_order" ]; then
+    said=$(python3 -B "$top/tools/check_report.py" "$folder/data" "${words[1]}" "$room/report") || fail "the report is wrong: $said"
+    echo "run.sh: the sessions take turns in any order; of this report tools/check_report.py says: $said" >&2
+fi

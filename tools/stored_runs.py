@@ -1,9 +1,15 @@
-"""The rules of the document check on runs: what documents show of files, and the examples, which are replayed."""
+"""The rules of the document check on runs: what documents show of files, and the examples, which are replayed.
+
+An example with a file any_order has several sessions, which take turns in any order. Its stored report and that of the program
+are each judged by tools/check_report.py then.
+"""
 
 import re
 import shutil
 import subprocess
 import tempfile
+
+import check_report
 
 PROGRAM = "dyntensor"
 REPLAY_SECONDS = 60
@@ -51,7 +57,10 @@ def check_examples(check):
         lacks = [it for it in ("args", "data", "stdout") if not (check.top / folder / it).exists()]
         if lacks:
             check.fault(folder, 1, f"it has no {' and no '.join(lacks)}", "store the example as the program's own run is stored")
-        elif program.is_file():
+            continue
+        if is_any_order(check.top / folder):
+            judge(check, folder, (check.top / folder / "stdout").read_bytes(), "the stored report is wrong")
+        if program.is_file():
             replay(check, folder, program)
         else:
             check.notes.append(f"{folder}: not replayed, since crates/{PROGRAM}/out/{PROGRAM} isn't built: rt run in crates/{PROGRAM} builds it")
@@ -70,11 +79,31 @@ def replay(check, folder, program):
             return
     if ran.returncode != wanted:
         check.fault(f"{folder}/args", 1, f"the program ended with status {ran.returncode}, and not {wanted}", "mend whichever is wrong")
-    if ran.stdout != (at / "stdout").read_bytes():
+    if is_any_order(at):
+        if judge(check, folder, ran.stdout, "the program's report is wrong"):
+            check.notes.append(f"{folder}: run, and its {len(ran.stdout.splitlines())} lines are a true report")
+    elif ran.stdout != (at / "stdout").read_bytes():
         line = first_difference(ran.stdout, (at / "stdout").read_bytes())
         check.fault(f"{folder}/stdout", line, "the program prints something else from here on", "mend whichever is wrong, by tools/replay.py and not by the program")
     else:
         check.notes.append(f"{folder}: replayed, {len(ran.stdout.splitlines())} lines as stored")
+
+
+def is_any_order(folder):
+    return (folder / "any_order").is_file()
+
+
+def judge(check, folder, report, what):
+    """Whether a report of an example is true by its own history, with no call that found no memory."""
+    at = check.top / folder
+    try:
+        _, left_out = check_report.check(at / "data", (at / "args").read_bytes().split(b"\n")[1], report)
+        why = f"{left_out} calls found no memory" if left_out else None
+    except check_report.Wrong as wrong:
+        why = str(wrong)
+    if why:
+        check.fault(f"{folder}/stdout", 1, f"{what}: {why}", "mend whichever is wrong, by tools/replay.py and not by the program")
+    return not why
 
 
 def first_difference(given, wanted):

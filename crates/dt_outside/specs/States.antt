@@ -1,5 +1,7 @@
--- What contracts see of a shelf and of sinks in memory.
+-- What contracts see of a shelf and of sinks in memory, and of a gate at which calls look for one another.
 use Rattle.std.specs.Prelude.{ℕ, Bool, List, [], Some}
+use Rattle.dt_model.specs.declared.calls.Turn.{Turn}
+use Rattle.dt_outside.specs.declared.hold_gates.Meeting.{Meeting}
 use Rattle.dt_outside.specs.declared.memory_files.MemFile.{MemFile}
 use Rattle.dt_outside.specs.Faults.{ShelfState}
 use Rattle.dt_outside.specs.MemoryFiles.{bytes_under}
@@ -36,3 +38,12 @@ shelf_state s = record { files = Some (bytes_under s.files); faults = s.faults; 
 -- what a shelf that never fails exposes as a shelf
 abbrev pub sure_state : List MemFile → ShelfState
 sure_state files = record { files = Some (bytes_under files); faults = 0; blamed = [] }
+
+-- the turns that look, each with the one that it looks for, and how often it looks
+pub record HoldGateState : Type 0 where
+  pub waits : List (Turn × Turn)
+  pub turns : ℕ
+
+-- a turn that looks, with the one that it looks for
+abbrev pub pair_of : Meeting → Turn × Turn
+pair_of m = (m.looking, m.wanted)

@@ -1,7 +1,7 @@
 //! Shelf, sink and gate: a fault comes only where a count rose.
 //!
 //! `Shelf::fetch` reads a file, `Sink::write_some` and `write_all` write bytes, `Gate::held` is called
-//! when a call holds its fibers.
+//! when a call holds its fibers. At a `HoldGate` calls of a test look for one another.
 //! Clauses see a shelf as a `ShelfState`: the files, if it exposes them, its count of faults and the name
 //! of the last fetch that failed; a sink as what was written, if it exposes it, and its count. Read
 //! `specs/Faults.antt` first.
@@ -12,6 +12,7 @@
 #![tactic(auto)]
 
 mod gates;
+mod hold_gates;
 mod memory_files;
 mod memory_shelves;
 mod memory_sinks;
@@ -22,6 +23,7 @@ mod sinks;
 mod tests;
 
 pub use gates::{Gate, OpenGate};
+pub use hold_gates::{HoldGate, MOST_WAITS};
 pub use memory_files::MemFile;
 pub use memory_shelves::{MemShelf, SureShelf};
 pub use memory_sinks::{MemSink, SureSink};

@@ -1,13 +1,15 @@
 //! What no clause says: that memory is found, and what real files and streams do.
 use crate::{
-    FetchFault, FileShelf, MemShelf, MemSink, Shelf, Sink, SinkFailed, StreamSink, SureShelf,
-    SureSink, write_all,
+    FetchFault, FileShelf, Gate, HoldGate, MemShelf, MemSink, Shelf, Sink, SinkFailed, StreamSink,
+    SureShelf, SureSink, write_all,
 };
+use dt_model::Turn;
 use std::cell::RefCell;
 use std::fmt::Display;
 use std::fs;
 use std::io::{self, ErrorKind, Print};
 use std::test::Fail;
+use std::thread::join;
 
 /// A standard output in memory, which takes at most 4 bytes a write.
 #[derive(Drop)]
@@ -147,4 +149,57 @@ fn a_stream_has_what_was_written(rt: HostRuntime) {
 fn the_standard_output_takes_bytes(rt: HostRuntime) {
     let mut sink = StreamSink::new(rt);
     assert_eq!(rt; write_all(&mut sink, b"a line of a test\n"), Ok(()));
+}
+
+/// The first call of a session.
+fn first_of(session: u32) -> Turn {
+    Turn { session, number: 1 }
+}
+
+/// How often a turn looks that is sure to meet another one.
+const MANY: u64 = 10_000_000;
+
+#[test]
+fn two_calls_that_look_for_each_other_meet(rt: HostRuntime) -> Result<(), Fail> {
+    let (one, two) = (first_of(1), first_of(2));
+    for _ in 0..20 {
+        let gate = HoldGate::new([(one, two), (two, one)].to_vec(rt.alloc())?, MANY);
+        assert!(rt; !gate.all_met());
+        join(&rt, || gate.held(one), || gate.held(two));
+        assert!(rt; gate.all_met());
+    }
+    Ok(())
+}
+
+#[test]
+fn a_call_alone_looks_in_vain(rt: HostRuntime) -> Result<(), Fail> {
+    let (one, two) = (first_of(1), first_of(2));
+    let gate = HoldGate::new([(one, two), (two, one)].to_vec(rt.alloc())?, 3);
+    gate.held(one);
+    assert!(rt; !gate.all_met());
+    // the other one comes too late for the first
+    gate.held(two);
+    assert!(rt; !gate.all_met());
+    // a call that tries again looks again
+    gate.held(one);
+    assert!(rt; gate.all_met());
+    Ok(())
+}
+
+#[test]
+fn a_look_at_a_turn_that_is_noted_finds_it_at_once(rt: HostRuntime) -> Result<(), Fail> {
+    let (one, two, three) = (first_of(1), first_of(2), first_of(3));
+    let gate = HoldGate::new([(two, one), (three, one)].to_vec(rt.alloc())?, u64::MAX);
+    gate.held(one);
+    gate.held(two);
+    assert!(rt; !gate.all_met());
+    gate.held(three);
+    assert!(rt; gate.all_met());
+    // no look is made, and none is needed
+    let never = HoldGate::new([(two, one)].to_vec(rt.alloc())?, 0);
+    never.held(one);
+    never.held(two);
+    assert!(rt; !never.all_met());
+    assert!(rt; HoldGate::new(Vec::new(rt.alloc()), 0).all_met());
+    Ok(())
 }

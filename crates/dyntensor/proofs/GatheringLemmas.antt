@@ -15,7 +15,7 @@ use Rattle.dt_model.specs.declared.replies.Verdict.{Verdict}
 use Rattle.dt_model.specs.Tensors.{dims_of, total_latches}
 use Rattle.dt_model.specs.Verdicts.{all_in_range, tensor_number}
 use Rattle.dt_model.specs.Worlds.{verdict_is_valid, updates_in}
-use Rattle.dt_model.proofs.Booleans.{both_true}
+use Rattle.dt_model.proofs.Booleans.{both_true, list_all-append}
 use Rattle.script_read.specs.declared.declarations.Declared.{Declared}
 use Rattle.script_read.specs.declared.items.Item.TheVariants.{Tensor, Session, Print}
 use Rattle.script_read.specs.Manifests.{declared_with, is_declared, is_within_limits}
@@ -52,6 +52,7 @@ tensors_are_few g h = (AreValid-from g.schemas g.tensors h.valid.decls).few
 -- the limits that an item keeps
 record AreLimits (d : Declared) : Type 0 where
   pub tensors : length d.tensors ≤ MOST_TENSORS
+  pub sessions : d.sessions ≤ MOST_SESSIONS
   pub latches : d.latches ≤ MOST_LATCHES
 
 limits_from : (d : Declared) → is_within_limits d ≡ true → AreLimits d
@@ -59,7 +60,7 @@ limits_from d h =
     let c = both_true (nat_le (length d.tensors) 32 && nat_le d.sessions 16 && nat_le d.prints 64) (nat_le d.latches 1024) h in
     let b = both_true (nat_le (length d.tensors) 32 && nat_le d.sessions 16) (nat_le d.prints 64) c.0 in
     let a = both_true (nat_le (length d.tensors) 32) (nat_le d.sessions 16) b.0 in
-    record { tensors = below (length d.tensors) 32 a.0; latches = below d.latches 1024 c.1 }
+    record { tensors = below (length d.tensors) 32 a.0; sessions = below d.sessions 16 a.1; latches = below d.latches 1024 c.1 }
 
 no_scripts : {X : Type 0} (xs : List X) → length xs ≡ 0 → xs ≡ []
 no_scripts [] e = refl
@@ -75,7 +76,6 @@ IsGatheredFrom-nothing = record {
   latches = refl;
   runnable = record {
     valid = record { decls = refl; sessions = refl; calls = refl; sizes = refl; tensors = refl; loads = refl; accepted = refl };
-    single = omega arith;
     are_declared = λ k e l. absurd (omega (arith, l));
   };
 }
@@ -103,7 +103,6 @@ IsGatheredFrom-schema d g s h early few small =
           loads = from_tensor-same (decls_with g.schemas g.tensors) (decls_with (g.schemas ++ s ∷ []) g.tensors) 0 g.base (λ t l. refl) ∙ v.loads;
           accepted = subst (λ ss. list_all (list_all (verdict_is_valid (decls_with (g.schemas ++ s ∷ []) g.tensors))) ss ≡ true) (sym none) refl;
         };
-        single = h.runnable.single;
         are_declared = h.runnable.are_declared;
       };
     }
@@ -159,7 +158,6 @@ IsGatheredFrom-tensor d g name dims formats latches h s =
               v.loads);
           accepted = subst (λ ss. list_all (list_all (verdict_is_valid (decls_with g.schemas (g.tensors ++ x ∷ [])))) ss ≡ true) (sym none) refl;
         };
-        single = h.runnable.single;
         are_declared = λ k e l. let p = h.runnable.are_declared k e l in omega arith;
       };
     }
@@ -192,7 +190,6 @@ IsGatheredFrom-lines d g t lines h l few inside =
               (subst (λ k. list_all (λ (l : List ℕ × ℕ). all_in_range (dims_of (decls_of g) k) l.0) lines ≡ true) here inside);
           accepted = v.accepted;
         };
-        single = h.runnable.single;
         are_declared = h.runnable.are_declared;
       };
     }
@@ -205,15 +202,14 @@ pub IsGatheredFrom-script : (d : Declared) (g : Gathered) (file : List ℕ) (byt
     → IsSoundScript (decls_of g) (lines_left g) script → IsGatheredFrom (declared_with d (Session file)) (with_script g bytes script)
 IsGatheredFrom-script d g file bytes script h s sound =
     let v = h.runnable.valid in
-    let none : g.scripts ≡ [] = no_scripts g.scripts (h.sessions ∙ s.asked) in
-    let one : g.scripts ++ script ∷ [] ≡ script ∷ [] = ap (λ ss. ss ++ script ∷ []) none in
+    let limits = limits_from (declared_with d (Session file)) s.limits in
+    let few : d.sessions + 1 ≤ MOST_SESSIONS = limits.sessions in
     let fits : lines_in g.base + updates_of g.scripts ≤ MOST_LINES = below (lines_in g.base + updates_of g.scripts) MOST_LINES v.sizes in
     let more : updates_of (g.scripts ++ script ∷ []) ≡ updates_of g.scripts
     + sum_by updates_in script = sum_by_push (λ s. sum_by updates_in s) g.scripts script in
     let low = sound.updates in
-    let count : length (g.scripts ++ script ∷ []) ≡ 1 = ap length one in
+    let count : length (g.scripts ++ script ∷ []) ≡ length g.scripts + 1 = grind (arith, common_steps) in
     let before = h.sessions in
-    let early = s.asked in
     let calls : nat_le (length script) MOST_CALLS ≡ true = test (length script) MOST_CALLS sound.calls in
     record {
       names = h.names;
@@ -223,13 +219,12 @@ IsGatheredFrom-script d g file bytes script h s sound =
         valid = record {
           decls = v.decls;
           sessions = test (length (g.scripts ++ script ∷ [])) MOST_SESSIONS (omega arith);
-          calls = subst (λ ss. list_all (λ (s : List Verdict). nat_le (length s) MOST_CALLS) ss ≡ true) (sym one) (rw calls refl);
+          calls = list_all-append (λ (s : List Verdict). nat_le (length s) MOST_CALLS) g.scripts (script ∷ []) v.calls (rw calls refl);
           sizes = test (lines_in g.base + updates_of (g.scripts ++ script ∷ [])) MOST_LINES (omega arith);
           tensors = v.tensors;
           loads = v.loads;
-          accepted = subst (λ ss. list_all (list_all (verdict_is_valid (decls_of g))) ss ≡ true) (sym one) (rw (sound.valid) refl);
+          accepted = list_all-append (list_all (verdict_is_valid (decls_of g))) g.scripts (script ∷ []) v.accepted (rw (sound.valid) refl);
         };
-        single = omega arith;
         are_declared = h.runnable.are_declared;
       };
     }
@@ -250,7 +245,6 @@ IsGatheredFrom-print d g name h e = record {
   latches = h.latches;
   runnable = record {
     valid = h.runnable.valid;
-    single = h.runnable.single;
     are_declared = All-push (λ t. t < length g.tensors) g.printed (tensor_number (decls_of g) name) h.runnable.are_declared (number_is_declared d g name h e);
   };
 }

@@ -5,9 +5,9 @@ pub mod Bindings
 pub mod SchemasTaken
 pub mod WorkloadLemmas
 pub mod ReadingsLemmas
-pub mod SessionCalls
-pub mod ScriptRunLemmas
-pub mod ScriptRows
-pub mod FinishedRuns
+pub mod NumberedLemmas
+pub mod OutcomeRows
+pub mod RunLemmas
+pub mod ReportTexts
 pub mod OutcomeLemmas
 pub mod CheckLemmas

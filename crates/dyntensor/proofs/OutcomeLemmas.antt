@@ -1,7 +1,9 @@
 -- What follows of a call that ended with its cause.
-use Rattle.std.proofs.Common.{inl, inr, ◌≡◌, ◌≢◌, ℕ, ◌≤◌, List, refl, ap, sym, ◌∙◌, arith, Option, Some, None, Result, Ok, Err}
-use Rattle.std.specs.Prelude.{◌⊎◌, ◌↔◌, IfSome, MatchResult}
+use Rattle.std.proofs.Common.{inl, inr, ◌≡◌, ◌≢◌, ℕ, ◌≤◌, Bool, true, false, List, refl, ap, sym, ◌∙◌, arith, Option, Some, None, Result, Ok, Err}
+use Rattle.std.specs.Prelude.{◌⊎◌, ◌↔◌, IfSome, IsSomeAnd, IsSome, is_some, MatchResult}
 use Rattle.dt_outside.specs.Faults.{ShelfState, HasRisen, IsAppended}
+use Rattle.fiber_latch.specs.declared.closing.Closed.{Closed}
+use Rattle.fiber_store.specs.Stores.{StoreState}
 use Rattle.dyntensor.specs.declared.faults.Fault.{Fault}
 use Rattle.dyntensor.specs.declared.outcomes.Outcome.{Outcome}
 use Rattle.dyntensor.specs.declared.outcomes.Outcome.TheVariants.{Report, Usage, Breaches, Refused, Unfetched, OutOfMemory}
@@ -61,31 +63,32 @@ module _ (status : ℕ) (old new : Option (List ℕ)) (before after : ℕ) where
   written_where P text h o None w = tt
   written_where P text h o (Some all) w = (text, w, h)
 
-  -- at status 0 the report was written
-  pub headline_in : (o : Outcome) (manifest : Option (List ℕ)) (shelf new_shelf : ShelfState)
-      → HasCause manifest shelf new_shelf o → IsWritten (status_of o) (due_text o) status old new before after → status ≡ 0
-      → IfSome shelf.files (λ f. IfSome manifest (λ m. WritesWhere (PrintsWorkload f m) old new))
-  headline_in o None shelf new_shelf h p e = IfSome-all shelf.files (λ f. Unit {0}) (λ f. tt)
-  headline_in o (Some m) shelf new_shelf h (inr p) e = let s = p.0 in absurd (omega arith)
-  headline_in (Report text) (Some m) shelf new_shelf h (inl p) e =
-      IfSome-map shelf.files (λ f. workload f m ≡ Ok h.work) (λ f. WritesWhere (PrintsWorkload f m) old new)
-      (λ f asked. written_where (PrintsWorkload f m) text.items (record { work = h.work; asked = asked; printed = h.printed }) old new p.1) h.asked
-  headline_in Usage (Some m) shelf new_shelf h (inl p) e = absurd h
-  headline_in (Breaches text) (Some m) shelf new_shelf h (inl p) e = absurd h
-  headline_in (Refused fault) (Some m) shelf new_shelf h (inl p) e = let s = p.0 in absurd (omega arith)
-  headline_in (Unfetched file) (Some m) shelf new_shelf h (inl p) e = let s = p.0 in absurd (omega arith)
-  headline_in OutOfMemory (Some m) shelf new_shelf h (inl p) e = let s = p.0 in absurd (omega arith)
+  -- at status 0 the report was written, and its table is left
+  pub headline_in : (o : Outcome) (manifest : Option (List ℕ)) (shelf new_shelf : ShelfState) (end : Option (Closed StoreState))
+      → HasCause manifest shelf new_shelf end o → IsWritten (status_of o) (due_text o) status old new before after → status ≡ 0
+      → IfSome shelf.files (λ f. IfSome manifest (λ m. WritesWhere (PrintsWorkload f m end) old new))
+  headline_in o None shelf new_shelf end h p e = IfSome-all shelf.files (λ f. Unit {0}) (λ f. tt)
+  headline_in o (Some m) shelf new_shelf end h (inr p) e = let s = p.0 in absurd (omega arith)
+  headline_in (Report text) (Some m) shelf new_shelf end h (inl p) e =
+      IfSome-map shelf.files (λ f. workload f m ≡ Ok h.work) (λ f. WritesWhere (PrintsWorkload f m end) old new)
+      (λ f asked. written_where (PrintsWorkload f m end) text.items (record { work = h.work; asked = asked; printed = h.printed; left = h.left }) old new p.1)
+      h.asked
+  headline_in Usage (Some m) shelf new_shelf end h (inl p) e = absurd h
+  headline_in (Breaches text) (Some m) shelf new_shelf end h (inl p) e = absurd h
+  headline_in (Refused fault) (Some m) shelf new_shelf end h (inl p) e = let s = p.0 in absurd (omega arith)
+  headline_in (Unfetched file) (Some m) shelf new_shelf end h (inl p) e = let s = p.0 in absurd (omega arith)
+  headline_in OutOfMemory (Some m) shelf new_shelf end h (inl p) e = let s = p.0 in absurd (omega arith)
 
 -- 1 exactly where the words name no manifest
-pub usage_in : (status : ℕ) (o : Outcome) (manifest : Option (List ℕ)) (shelf new_shelf : ShelfState) → HasCause manifest shelf new_shelf o
-    → status ≡ status_of o → (status ≡ 1) ↔ (manifest ≡ None)
-usage_in status o None shelf new_shelf h e = (λ _. refl, λ _. e ∙ ap status_of h)
-usage_in status o (Some m) shelf new_shelf h e = (λ one. absurd (not_one o h (sym e ∙ one)), λ none. absurd (some_none none))
+pub usage_in : (status : ℕ) (o : Outcome) (manifest : Option (List ℕ)) (shelf new_shelf : ShelfState) (end : Option (Closed StoreState))
+    → HasCause manifest shelf new_shelf end o → status ≡ status_of o → (status ≡ 1) ↔ (manifest ≡ None)
+usage_in status o None shelf new_shelf end h e = (λ _. refl, λ _. e ∙ ap status_of h.0)
+usage_in status o (Some m) shelf new_shelf end h e = (λ one. absurd (not_one o h (sym e ∙ one)), λ none. absurd (some_none none))
   where
     some_none : ◌≡◌ {A = Option (List ℕ)} (Some m) None → ⊥
     some_none e = cc
 
-    not_one : (o : Outcome) → HasCauseIn m shelf new_shelf o → status_of o ≡ 1 → ⊥
+    not_one : (o : Outcome) → HasCauseIn m shelf new_shelf end o → status_of o ≡ 1 → ⊥
     not_one (Report text) h e = omega arith
     not_one Usage h e = h
     not_one (Breaches text) h e = h
@@ -94,30 +97,52 @@ usage_in status o (Some m) shelf new_shelf h e = (λ one. absurd (not_one o h (s
     not_one OutOfMemory h e = omega arith
 
 -- 3 only where the shelf's count rose
-pub shelf_rose : (o : Outcome) (manifest : Option (List ℕ)) (shelf new_shelf : ShelfState) → HasCause manifest shelf new_shelf o → status_of o ≡ 3
-    → HasRisen shelf.faults new_shelf.faults
-shelf_rose o None shelf new_shelf h e = let one : status_of o ≡ 1 = ap status_of h in absurd (omega arith)
-shelf_rose (Report text) (Some m) shelf new_shelf h e = absurd (omega arith)
-shelf_rose Usage (Some m) shelf new_shelf h e = absurd h
-shelf_rose (Breaches text) (Some m) shelf new_shelf h e = absurd h
-shelf_rose (Refused fault) (Some m) shelf new_shelf h e = absurd (omega arith)
-shelf_rose (Unfetched file) (Some m) shelf new_shelf h e = h.rose
-shelf_rose OutOfMemory (Some m) shelf new_shelf h e = absurd (omega arith)
+pub shelf_rose : (o : Outcome) (manifest : Option (List ℕ)) (shelf new_shelf : ShelfState) (end : Option (Closed StoreState))
+    → HasCause manifest shelf new_shelf end o → status_of o ≡ 3 → HasRisen shelf.faults new_shelf.faults
+shelf_rose o None shelf new_shelf end h e = let one : status_of o ≡ 1 = ap status_of h.0 in absurd (omega arith)
+shelf_rose (Report text) (Some m) shelf new_shelf end h e = absurd (omega arith)
+shelf_rose Usage (Some m) shelf new_shelf end h e = absurd h
+shelf_rose (Breaches text) (Some m) shelf new_shelf end h e = absurd h
+shelf_rose (Refused fault) (Some m) shelf new_shelf end h e = absurd (omega arith)
+shelf_rose (Unfetched file) (Some m) shelf new_shelf end h e = h.1.rose
+shelf_rose OutOfMemory (Some m) shelf new_shelf end h e = absurd (omega arith)
 
 -- a sound workload is run, and a faulty one refused
-pub completes_in : (status : ℕ) (o : Outcome) (manifest : Option (List ℕ)) (shelf new_shelf : ShelfState)
-    → HasCause manifest shelf new_shelf o → status ≡ status_of o → (HasRisen shelf.faults new_shelf.faults → ⊥)
+pub completes_in : (status : ℕ) (o : Outcome) (manifest : Option (List ℕ)) (shelf new_shelf : ShelfState) (end : Option (Closed StoreState))
+    → HasCause manifest shelf new_shelf end o → status ≡ status_of o → (HasRisen shelf.faults new_shelf.faults → ⊥)
     → IfSome shelf.files (λ f. IfSome manifest (λ m. Completes f m status))
-completes_in status o None shelf new_shelf h e quiet = IfSome-all shelf.files (λ f. Unit {0}) (λ f. tt)
-completes_in status (Report text) (Some m) shelf new_shelf h e quiet =
+completes_in status o None shelf new_shelf end h e quiet = IfSome-all shelf.files (λ f. Unit {0}) (λ f. tt)
+completes_in status (Report text) (Some m) shelf new_shelf end h e quiet =
     IfSome-map shelf.files (λ f. workload f m ≡ Ok h.work) (λ f. Completes f m status) (λ f asked. rw asked (inl e)) h.asked
-completes_in status Usage (Some m) shelf new_shelf h e quiet = absurd h
-completes_in status (Breaches text) (Some m) shelf new_shelf h e quiet = absurd h
-completes_in status (Refused fault) (Some m) shelf new_shelf h e quiet =
-    IfSome-map shelf.files (λ f. workload f m ≡ Err fault) (λ f. Completes f m status) (λ f is. rw is (inl e)) h
-completes_in status (Unfetched file) (Some m) shelf new_shelf h e quiet = absurd (quiet h.rose)
-completes_in status OutOfMemory (Some m) shelf new_shelf h e quiet = IfSome-all shelf.files (λ f. Completes f m status) (λ f. either (workload f m))
+completes_in status Usage (Some m) shelf new_shelf end h e quiet = absurd h
+completes_in status (Breaches text) (Some m) shelf new_shelf end h e quiet = absurd h
+completes_in status (Refused fault) (Some m) shelf new_shelf end h e quiet =
+    IfSome-map shelf.files (λ f. workload f m ≡ Err fault) (λ f. Completes f m status) (λ f is. rw is (inl e)) h.1
+completes_in status (Unfetched file) (Some m) shelf new_shelf end h e quiet = absurd (quiet h.1.rose)
+completes_in status OutOfMemory (Some m) shelf new_shelf end h e quiet =
+    IfSome-all shelf.files (λ f. Completes f m status) (λ f. either (workload f m))
   where
     either : (r : Result Work Fault) → MatchResult r (λ _. (status ≡ 0) ⊎ (status ≡ 5)) (λ _. (status ≡ 2) ⊎ (status ≡ 5))
     either (Ok work) = inr e
     either (Err fault) = inr e
+
+-- a table is left exactly at status 0
+pub end_in : (status : ℕ) (o : Outcome) (manifest : Option (List ℕ)) (shelf new_shelf : ShelfState) (end : Option (Closed StoreState))
+    → HasCause manifest shelf new_shelf end o → status ≡ status_of o → (status ≡ 0) ↔ IsSome end
+end_in status o manifest shelf new_shelf end h e = at manifest o h e
+  where
+    no_table : end ≡ None → (status ≡ 0 → ⊥) → (status ≡ 0) ↔ IsSome end
+    no_table none n = (λ zero. absurd (n zero), λ s. absurd (let no : ◌≡◌ {A = Bool} false true = ap is_some (sym none) ∙ s in cc))
+
+    there : (x : Option (Closed StoreState)) (P : Closed StoreState → Type 0) → IsSomeAnd x P → IsSome x
+    there None P h = absurd h
+    there (Some c) P h = refl
+
+    at : (manifest : Option (List ℕ)) (o : Outcome) → HasCause manifest shelf new_shelf end o → status ≡ status_of o → (status ≡ 0) ↔ IsSome end
+    at None o h e = let one : status_of o ≡ 1 = ap status_of h.0 in no_table h.1 (λ zero. omega arith)
+    at (Some m) (Report text) h e = (λ zero. there end _ h.left, λ s. e)
+    at (Some m) Usage h e = absurd h
+    at (Some m) (Breaches text) h e = absurd h
+    at (Some m) (Refused fault) h e = no_table h.0 (λ zero. omega arith)
+    at (Some m) (Unfetched file) h e = no_table h.0 (λ zero. omega arith)
+    at (Some m) OutOfMemory h e = no_table h (λ zero. omega arith)

@@ -1,5 +1,5 @@
 -- What is known of what was gathered from a manifest's items, whatever the files have. No public clause cites this module.
-use Rattle.std.specs.Prelude.{ℕ, ◌≡◌, ◌≤◌, ◌<◌, List, map, length, All}
+use Rattle.std.specs.Prelude.{ℕ, ◌≡◌, ◌<◌, List, map, length, All}
 use Rattle.dt_model.specs.declared.replies.World.{World}
 use Rattle.dt_model.specs.Tensors.{total_latches}
 use Rattle.dt_model.specs.Worlds.{IsValid}
@@ -8,10 +8,9 @@ use Rattle.script_read.specs.declared.items.Item.{Item}
 use Rattle.script_read.specs.Sound.{IsSoundItem}
 use Rattle.dyntensor.specs.Workload.{Gathered, work_of}
 
--- a valid world of one session at most, and tensors of it to print
+-- a valid world, and tensors of it to print
 pub record IsRunnable (w : World) (printed : List ℕ) : Type 0 where
   pub valid : IsValid w
-  pub single : length w.scripts ≤ 1
   pub are_declared : All (λ t. t < length w.decls.tensors) printed
 
 -- it was gathered from items that declare this

@@ -3,9 +3,11 @@ pub mod Files
 pub mod Workload
 pub mod Reached
 pub mod FaultTexts
+pub mod Leaving
 pub mod Outcome
 pub mod Checks
 pub mod Headline
 pub mod Readings
 pub mod Gathering
-pub mod ScriptRun
+pub mod Rows
+pub mod Finished

@@ -1,10 +1,13 @@
 -- How a run of the program ends: with which status and text, and why.
-use Rattle.std.specs.Prelude.{ℕ, ◌≡◌, ◌≤◌, List, length, take, Option, Some, None, Ok, Err, IfSome, ◌⊎◌, codes}
-use Rattle.dt_model.specs.Report.{PrintsRun}
+use Rattle.std.specs.Prelude.{ℕ, ◌≡◌, ◌≤◌, List, length, take, Option, Some, None, Ok, Err, IfSome, IsSomeAnd, ◌⊎◌, codes}
+use Rattle.dt_model.specs.Report.{history, PrintsRun}
 use Rattle.dt_outside.specs.Faults.{ShelfState, HasRisen, IsAppended}
+use Rattle.fiber_latch.specs.declared.closing.Closed.{Closed}
+use Rattle.fiber_store.specs.Stores.{StoreState}
 use Rattle.dyntensor.specs.declared.outcomes.Outcome.{Outcome}
 use Rattle.dyntensor.specs.declared.outcomes.Outcome.TheVariants.{Report, Usage, Breaches, Refused, Unfetched, OutOfMemory}
 use Rattle.dyntensor.specs.FaultTexts.{refused_text, shelf_text}
+use Rattle.dyntensor.specs.Leaving.{IsLeftBy}
 use Rattle.dyntensor.specs.Reached.{IsReached}
 use Rattle.dyntensor.specs.Workload.{Work, workload}
 
@@ -26,11 +29,13 @@ due_text (Refused fault) = refused_text fault
 due_text (Unfetched file) = shelf_text file
 due_text OutOfMemory = codes "no memory\n"
 
--- a report: it is what a run of some work prints, and where the files are exposed, of the workload
-pub record IsReport (old : ShelfState) (manifest text : List ℕ) : Type 0 where
+-- a report: it is what a run of some work prints, and where the files are exposed, of the workload; the table is left with the
+-- history in it
+pub record IsReport (old : ShelfState) (manifest : List ℕ) (end : Option (Closed StoreState)) (text : List ℕ) : Type 0 where
   pub work : Work
   pub asked : IfSome old.files (λ files. workload files manifest ≡ Ok work)
   pub printed : PrintsRun work.world work.printed text
+  pub left : IsSomeAnd end (IsLeftBy work.world (history work.world text))
 
 -- a file that the shelf failed to give: its count rose in the run, and it blames this file, which the run had to fetch
 pub record IsUnfetched (old new : ShelfState) (manifest file : List ℕ) : Type 0 where
@@ -38,19 +43,20 @@ pub record IsUnfetched (old new : ShelfState) (manifest file : List ℕ) : Type 
   pub blamed : new.blamed ≡ file
   pub reached : IfSome old.files (λ files. IsReached files manifest file)
 
--- the cause of an outcome, where the words name a manifest, by the shelf before and after the run
-abbrev pub HasCauseIn : List ℕ → ShelfState → ShelfState → Outcome → Type 0
-HasCauseIn manifest old new (Report text) = IsReport old manifest text.items
-HasCauseIn manifest old new Usage = ⊥
-HasCauseIn manifest old new (Breaches text) = ⊥
-HasCauseIn manifest old new (Refused fault) = IfSome old.files (λ files. workload files manifest ≡ Err fault)
-HasCauseIn manifest old new (Unfetched file) = IsUnfetched old new manifest file
-HasCauseIn manifest old new OutOfMemory = Unit {0}
+-- the cause of an outcome, where the words name a manifest, by the shelf before and after the run and what is left of the table,
+-- which is nothing but at a report
+abbrev pub HasCauseIn : List ℕ → ShelfState → ShelfState → Option (Closed StoreState) → Outcome → Type 0
+HasCauseIn manifest old new end (Report text) = IsReport old manifest end text.items
+HasCauseIn manifest old new end Usage = ⊥
+HasCauseIn manifest old new end (Breaches text) = ⊥
+HasCauseIn manifest old new end (Refused fault) = (end ≡ None) × IfSome old.files (λ files. workload files manifest ≡ Err fault)
+HasCauseIn manifest old new end (Unfetched file) = (end ≡ None) × IsUnfetched old new manifest file
+HasCauseIn manifest old new end OutOfMemory = end ≡ None
 
--- the cause of an outcome, by the manifest that the words name, if they do, and by the shelf
-abbrev pub HasCause : Option (List ℕ) → ShelfState → ShelfState → Outcome → Type 0
-HasCause None old new outcome = outcome ≡ Usage
-HasCause (Some manifest) old new outcome = HasCauseIn manifest old new outcome
+-- the cause of an outcome, by the manifest that the words name, if they do, by the shelf, and by what is left of the table
+abbrev pub HasCause : Option (List ℕ) → ShelfState → ShelfState → Option (Closed StoreState) → Outcome → Type 0
+HasCause None old new end outcome = (outcome ≡ Usage) × (end ≡ None)
+HasCause (Some manifest) old new end outcome = HasCauseIn manifest old new end outcome
 
 -- a part of the text, from its beginning on, was written
 pub record IsBegun (old : Option (List ℕ)) (text : List ℕ) (new : Option (List ℕ)) : Type 0 where

@@ -1,10 +1,10 @@
 //! The commands and their top calls.
 //!
-//! `top_run` runs the workload of a manifest and writes the report, and `top_check` checks a file of
-//! schemas; `main` hands them the words, the real files and standard output.
+//! `top_run` runs the workload of a manifest, each session on a thread of its own, and writes the report;
+//! `top_check` checks a file of schemas; `main` hands them the words, the real files and standard output.
 //! A clause sees the words as bytes, the files where the shelf exposes them, what was written where the
-//! sink exposes it, and both counts of faults. Read `specs/Workload.antt` first, then
-//! `specs/Outcome.antt`; for `top_check` read `specs/Checks.antt`.
+//! sink exposes it, both counts of faults, and what is left of a run's table. Read `specs/Workload.antt`
+//! first, then `specs/Outcome.antt`; for `top_check` read `specs/Checks.antt`.
 //! Lines, sessions and calls are counted from 1, tensors from 0. A file has at most `FILE_LIMIT`
 //! bytes, as have all scripts together; loaded lines and accepted updates are at most `MOST_LINES`.
 //! Not here: what the lines of a manifest or a script say (`script_read`), those of data (`tns_io`) and
@@ -24,6 +24,8 @@ mod report_rows;
 mod runs;
 #[cfg(test)]
 mod schema_tests;
+#[cfg(test)]
+mod session_tests;
 mod stops;
 #[cfg(test)]
 mod tests;
@@ -94,7 +96,18 @@ fn main(rt: HostRuntime) -> ExitCode {
     let mut sink = StreamSink::new(rt);
     let status = match words_of(&rt) {
         Ok(words) if is_check(&words) => top_check(rt.alloc(), &words, &mut shelf, &mut sink),
-        Ok(words) => top_run(rt.alloc(), &words, &mut shelf, &mut sink, &OpenGate),
+        Ok(words) => {
+            let mut end = None;
+            top_run(
+                &rt,
+                rt.alloc(),
+                &words,
+                &mut shelf,
+                &mut sink,
+                &OpenGate,
+                &mut end,
+            )
+        }
         Err(NoMemory) => write_outcome(&mut sink, &Outcome::OutOfMemory),
     };
     ExitCode::from(status)

@@ -1,17 +1,20 @@
 //! The rows of a report.
-ghost use Rattle.std.specs.Prelude.{◌≡◌, ◌++◌, ◌∷◌, [], codes, OnOk, length, map};
+ghost use Rattle.std.specs.Prelude.{◌≡◌, ◌≤◌, ◌++◌, ◌∷◌, [], All, codes, OnOk, length, map};
 ghost use Rattle.std.specs.Fmt.{decimal};
 ghost use Rattle.std.specs.List.{join_with_byte};
+ghost use Rattle.dt_model.specs.declared.limits.TheConstants.{MOST_CALLS, MOST_SESSIONS};
 ghost use Rattle.dt_model.specs.Texts.{text_of};
-ghost use Rattle.dt_model.specs.Report.{call_rows, history_rows, pair_row, turn_row, refusal_words};
+ghost use Rattle.dt_model.specs.Report.{history_rows, pair_row, refusal_words, reply_rows, turn_row};
+ghost use Rattle.dyntensor.specs.Rows.{numbered_rows, outcome_rows, outcomes_rows};
 
-use dt_model::{Entry, Name, NoMemory, Nonzeros, Refusal, Reply};
+use dt_model::{Entry, List, Name, NoMemory, Nonzeros, Refusal, Reply};
 use dt_text::{append, write_number, write_value};
 use itoa::Buffer;
+use sessions::Outcome;
 use tns_io::write_tns;
 
 /// Appends the row that begins a session.
-pub fn write_session(number: u32, text: &mut Vec<u8>) -> Result<(), NoMemory>
+fn write_session(number: u32, text: &mut Vec<u8>) -> Result<(), NoMemory>
     ensures ok { OnOk result (text.new.items ≡ text.old.items ++ text_of ((codes "session" ∷ decimal number ∷ []) ∷ [])) }
 {
     write_numbered("session ", number, text)?;
@@ -27,21 +30,28 @@ fn write_result(pairs: &Nonzeros, text: &mut Vec<u8>) -> Result<(), NoMemory>
     write_tns(pairs, text)
 }
 
-/// Appends the rows of a call's reply, or of a call that found no memory.
-pub fn write_reply(number: u32, reply: &Option<Reply>, text: &mut Vec<u8>) -> Result<(), NoMemory>
-    ensures ok { OnOk result (text.new.items ≡ text.old.items ++ text_of (call_rows number reply.now)) }
+/// Appends the rows of a call's reply.
+fn write_reply(number: u32, reply: &Reply, text: &mut Vec<u8>) -> Result<(), NoMemory>
+    ensures ok { OnOk result (text.new.items ≡ text.old.items ++ text_of (reply_rows number reply.now)) }
 {
     write_number(number, text)?;
     match reply {
-        None => append(text, b" no memory\n"),
-        Some(Reply::Done) => append(text, b" ok\n"),
-        Some(Reply::Value(value)) => {
+        Reply::Done => append(text, b" ok\n"),
+        Reply::Value(value) => {
             append(text, b" value ")?;
             write_value(*value, text)?;
             append(text, b"\n")
         }
-        Some(Reply::Result(pairs)) => write_result(pairs, text),
+        Reply::Result(pairs) => write_result(pairs, text),
     }
+}
+
+/// Appends the row of a call that ran out of memory.
+fn write_no_memory(number: u32, text: &mut Vec<u8>) -> Result<(), NoMemory>
+    ensures ok { OnOk result (text.new.items ≡ text.old.items ++ text_of ((decimal number ∷ codes "no" ∷ codes "memory" ∷ []) ∷ [])) }
+{
+    write_number(number, text)?;
+    append(text, b" no memory\n")
 }
 
 /// Appends a name between two texts.
@@ -110,13 +120,55 @@ fn write_reason(refusal: &Refusal, text: &mut Vec<u8>) -> Result<(), NoMemory>
 }
 
 /// Appends the row of a line that is refused.
-pub fn write_refusal(number: u32, refusal: &Refusal, text: &mut Vec<u8>) -> Result<(), NoMemory>
+fn write_refusal(number: u32, refusal: &Refusal, text: &mut Vec<u8>) -> Result<(), NoMemory>
     ensures ok { OnOk result (text.new.items ≡ text.old.items ++ text_of ((decimal number ∷ codes "refused" ∷ refusal_words refusal.now) ∷ [])) }
 {
     write_number(number, text)?;
     append(text, b" refused ")?;
     write_reason(refusal, text)?;
     append(text, b"\n")
+}
+
+/// Appends the rows of a line's outcome.
+fn write_line(number: u32, outcome: &Outcome, text: &mut Vec<u8>) -> Result<(), NoMemory>
+    ensures ok { OnOk result (text.new.items ≡ text.old.items ++ text_of (outcome_rows number outcome.now)) }
+{
+    match outcome {
+        Outcome::Refused(refusal) => write_refusal(number, refusal, text),
+        Outcome::Reply(reply) => write_reply(number, reply, text),
+        Outcome::NoMemory => write_no_memory(number, text),
+    }
+}
+
+/// Appends the rows of a session's lines.
+fn write_lines(outcomes: &[Outcome], text: &mut Vec<u8>) -> Result<(), NoMemory>
+    requires few { length outcomes.now ≤ MOST_CALLS }
+    ensures ok { OnOk result (text.new.items ≡ text.old.items ++ text_of (numbered_rows outcome_rows outcomes.now)) }
+{
+    for (i, outcome) in outcomes.iter().enumerate() {
+        write_line(i as u32 + 1, outcome, text)?;
+    }
+    Ok(())
+}
+
+/// Appends the rows of a session: its number, and those of its lines.
+fn write_outcomes(number: u32, outcomes: &[Outcome], text: &mut Vec<u8>) -> Result<(), NoMemory>
+    requires few { length outcomes.now ≤ MOST_CALLS }
+    ensures ok { OnOk result (text.new.items ≡ text.old.items ++ text_of (outcomes_rows number outcomes.now)) }
+{
+    write_session(number, text)?;
+    write_lines(outcomes, text)
+}
+
+/// Appends the rows of all sessions.
+pub fn write_sessions(sessions: &[List<Outcome>], text: &mut Vec<u8>) -> Result<(), NoMemory>
+    requires few { (length sessions.now ≤ MOST_SESSIONS) × All (λ outcomes. length outcomes ≤ MOST_CALLS) sessions.now }
+    ensures ok { OnOk result (text.new.items ≡ text.old.items ++ text_of (numbered_rows outcomes_rows sessions.now)) }
+{
+    for (i, outcomes) in sessions.iter().enumerate() {
+        write_outcomes(i as u32 + 1, outcomes.as_slice(), text)?;
+    }
+    Ok(())
 }
 
 /// Appends the rows of the history.

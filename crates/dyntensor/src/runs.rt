@@ -1,160 +1,134 @@
-//! Runs the calls of a world on one thread, and writes the report.
-ghost use Rattle.std.specs.Prelude.{◌≡◌, ◌<◌, ◌≤◌, ◌++◌, [], true, OnOk, IfOk, All, length};
+//! Runs the scripts of a world, each session on a thread of its own, and writes the report.
+ghost use Rattle.std.specs.Prelude.{◌≡◌, ◌<◌, ◌≤◌, ◌++◌, [], OnOk, IfOk, All, length};
 ghost use Rattle.std.specs.List.{flat_map, enumerate_from};
 ghost use Rattle.dt_model.specs.declared.limits.TheConstants.{MOST_CALLS};
 ghost use Rattle.dt_model.specs.Texts.{text_of};
-ghost use Rattle.dt_model.specs.Runs.{reply_of_turn};
-ghost use Rattle.dt_model.specs.Report.{lines_rows, session_rows, tensor_rows, PrintsRun};
-ghost use Rattle.dt_model.specs.Verdicts.{call_is_valid};
-ghost use Rattle.dt_model.specs.Worlds.{decls_are_valid, verdict_is_valid};
-ghost use Rattle.commit_core.specs.Orders.{orders_of};
-ghost use Rattle.sessions.specs.RunState.{IsRunOf};
+ghost use Rattle.dt_model.specs.Report.{history, session_rows, tensor_rows, PrintsRun};
+ghost use Rattle.dt_model.specs.Worlds.{IsValid};
+ghost use Rattle.dyntensor.specs.Finished.{IsFinished};
 ghost use Rattle.dyntensor.specs.Gathering.{IsRunnable};
-ghost use Rattle.dyntensor.specs.ScriptRun.{StepsTo, IsSoFar, IsRun, IsOneSession, IsFinished};
+ghost use Rattle.dyntensor.specs.Leaving.{IsLeftBy};
 
-use crate::report_rows::{write_history, write_refusal, write_reply, write_session, write_tensor};
-use dt_model::{Call, Decls, NoMemory, Reply, Scripts, Turn, Verdict, World};
-use sessions::Plain;
+use crate::report_rows::{write_history, write_sessions, write_tensor};
+use dt_model::{NoMemory, Verdicts, World};
+use dt_outside::Gate;
+use fiber_latch::Closed;
+use fiber_store::FiberStore;
+use sessions::{Engine, nonzeros_of, run_sessions};
 use std::alloc::Global;
+use std::sync::Wait;
+use std::thread::Threads;
 
-/// Makes a call, or finds no memory.
-fn make_call(
-    alloc: Global,
-    decls: &Decls,
-    plain: &mut Plain,
-    number: u32,
-    call: &Call,
-) -> Option<Reply>
-    requires decls { decls_are_valid decls.now ≡ true }
-    requires declared { plain.old.orders ≡ orders_of decls.now }
-    requires valid { call_is_valid decls.now call.now ≡ true }
-    requires above { plain.old.last < number }
-    requires below { number ≤ plain.old.calls }
-    ensures step { StepsTo decls.now plain.old plain.new number call.now result }
-    ensures calls { plain.new.calls ≡ plain.old.calls }
+/// The greater of two counts of calls.
+fn greater(one: u32, other: u32) -> u32
+    requires few { (one ≤ MOST_CALLS) × (other ≤ MOST_CALLS) }
+    ensures few { result ≤ MOST_CALLS }
+    ensures greatest { (one ≤ result) × (other ≤ result) }
 {
-    let turn = Turn { session: 1, number };
-    match call.copy(alloc) {
-        Ok(copy) => match plain.call(decls, turn, copy) {
-            Ok(reply) => Some(reply),
-            Err(_) => None,
-        },
-        Err(NoMemory) => None,
-    }
+    if one < other { other } else { one }
 }
 
-/// Runs a line of the script, and appends its row.
-fn run_line(
-    alloc: Global,
-    decls: &Decls,
-    plain: &mut Plain,
-    number: u32,
-    verdict: &Verdict,
-    text: &mut Vec<u8>,
-) -> Result<(), NoMemory>
-    requires decls { decls_are_valid decls.now ≡ true }
-    requires declared { plain.old.orders ≡ orders_of decls.now }
-    requires valid { verdict_is_valid decls.now verdict.now ≡ true }
-    requires above { plain.old.last < number }
-    requires below { number ≤ plain.old.calls }
-    ensures run { OnOk result (IsRun decls.now plain.old plain.new number verdict.now text.old.items text.new.items) }
-    ensures calls { plain.new.calls ≡ plain.old.calls }
+/// The most calls that a script has, or 1 where each has none.
+fn most_calls(scripts: &[Verdicts]) -> u32
+    requires calls { All (λ script. length script ≤ MOST_CALLS) scripts.now }
+    ensures room { All (λ script. length script ≤ result) scripts.now }
+    ensures few { (1 ≤ result) × (result ≤ MOST_CALLS) }
 {
-    match verdict {
-        Verdict::Accepted(call) => {
-            let reply = make_call(alloc, decls, plain, number, call);
-            write_reply(number, &reply, text)
-        }
-        Verdict::Refused(refusal) => write_refusal(number, refusal, text),
+    let mut most = 1;
+    for script in scripts {
+        most = greater(most, script.len() as u32);
     }
+    most
 }
 
-/// Makes the calls of a script, and appends their rows.
-fn run_script(
+/// Opens the table of a world without scripts, and closes it at once.
+fn run_no_scripts(alloc: Global, world: &World) -> Result<Closed<FiberStore>, NoMemory>
+    requires valid { IsValid world.now }
+    requires none { world.now.scripts ≡ [] }
+    ensures finished { IfOk result (IsFinished world.now) }
+{
+    let (engine, seat) = Engine::open(alloc, world, 1, 1)?;
+    Ok(engine.close(seat))
+}
+
+/// Makes the calls of all scripts, each session on a thread of its own, and appends the rows of their lines. Out of memory
+/// outside a session's call, what is appended is no more than a beginning of the rows.
+fn run_scripts<R: Threads + Wait + Sync, G: Gate + Sync>(
+    rt: &R,
     alloc: Global,
     world: &World,
-    script: &[Verdict],
-    plain: &mut Plain,
+    gate: &G,
     text: &mut Vec<u8>,
-) -> Result<(), NoMemory>
-    requires session { IsOneSession world.now script.now }
-    requires room { length script.now ≤ plain.old.calls }
-    requires start { IsSoFar world.now 0 plain.old }
-    ensures done { OnOk result (IsSoFar world.now (length script.now) plain.new) }
-    ensures rows { OnOk result (text.new.items ≡ text.old.items ++ text_of (lines_rows (reply_of_turn world.now plain.new.entries 1) 1 script.now)) }
+) -> Result<Closed<FiberStore>, NoMemory>
+    requires valid { IsValid world.now }
+    requires some { 1 ≤ length world.now.scripts }
+    ensures finished { IfOk result (IsFinished world.now) }
+    ensures rows { IfOk result (λ closed. text.new.items ≡ text.old.items
+        ++ text_of (flat_map (session_rows world.now closed.journal.entries) (enumerate_from 1 world.now.scripts))) }
 {
-    for (i, verdict) in script.iter().enumerate() {
-        let number = i as u32 + 1;
-        run_line(alloc, &world.decls, plain, number, verdict, text)?;
+    let scripts = &world.scripts;
+    let sessions = scripts.len() as u32;
+    let (engine, seat) = Engine::open(alloc, world, sessions, most_calls(scripts.as_slice()))?;
+    let (whole, outcomes) = run_sessions(rt, &engine, seat, scripts, gate)?;
+    write_sessions(outcomes.as_slice(), text)?;
+    Ok(engine.close(whole))
+}
+
+/// Runs a world, and appends the rows of its sessions.
+fn run_world<R: Threads + Wait + Sync, G: Gate + Sync>(
+    rt: &R,
+    alloc: Global,
+    world: &World,
+    gate: &G,
+    text: &mut Vec<u8>,
+) -> Result<Closed<FiberStore>, NoMemory>
+    requires valid { IsValid world.now }
+    ensures finished { IfOk result (IsFinished world.now) }
+    ensures rows { IfOk result (λ closed. text.new.items ≡ text.old.items
+        ++ text_of (flat_map (session_rows world.now closed.journal.entries) (enumerate_from 1 world.now.scripts))) }
+{
+    if world.scripts.len() == 0 {
+        run_no_scripts(alloc, world)
+    } else {
+        run_scripts(rt, alloc, world, gate, text)
     }
-    Ok(())
 }
 
 /// Appends the rows of the printed tensors.
 fn write_tensors(
+    alloc: Global,
     world: &World,
-    plain: &Plain,
+    closed: &Closed<FiberStore>,
     printed: &[u32],
     text: &mut Vec<u8>,
 ) -> Result<(), NoMemory>
     requires runnable { IsRunnable world.now printed.now }
-    requires finished { IsFinished world.now plain.now }
-    ensures rows { OnOk result (text.new.items ≡ text.old.items ++ text_of (flat_map (tensor_rows world.now plain.now.entries) printed.now)) }
+    requires finished { IsFinished world.now closed.now }
+    ensures rows { OnOk result (text.new.items ≡ text.old.items ++ text_of (flat_map (tensor_rows world.now closed.now.journal.entries) printed.now)) }
 {
     let tensors = world.decls.tensors.as_slice();
     for tensor in printed {
-        let nonzeros = plain.pairs(*tensor)?;
+        let nonzeros = nonzeros_of(alloc, closed, &world.decls, *tensor)?;
         write_tensor(&tensors[*tensor as usize].name, &nonzeros, text)?;
     }
     Ok(())
 }
 
-/// Makes the calls of the session, if there is one, and appends its rows.
-fn run_sessions(
+/// Runs a world, and answers the report with the printed tensors, and what is left of the table.
+pub fn run_report<R: Threads + Wait + Sync, G: Gate + Sync>(
+    rt: &R,
     alloc: Global,
     world: &World,
-    plain: &mut Plain,
-    text: &mut Vec<u8>,
-) -> Result<(), NoMemory>
-    requires runnable { IsRunnable world.now [] }
-    requires room { All (λ script. length script ≤ plain.old.calls) world.now.scripts }
-    requires run { IsRunOf world.now plain.old }
-    requires fresh { plain.old.entries ≡ [] }
-    requires start { plain.old.last ≡ 0 }
-    ensures done { OnOk result (IsFinished world.now plain.new) }
-    ensures rows { OnOk result (text.new.items ≡ text.old.items ++ text_of (flat_map (session_rows world.now plain.new.entries) (enumerate_from 1 world.now.scripts))) }
-{
-    match world.scripts.get(0) {
-        None => Ok(()),
-        Some(script) => {
-            write_session(1, text)?;
-            run_script(alloc, world, script.as_slice(), plain, text)
-        }
-    }
-}
-
-/// The most calls that a script has.
-fn most_calls(scripts: &Scripts) -> u32
-    requires calls { All (λ script. length script ≤ MOST_CALLS) scripts.now }
-    requires single { length scripts.now ≤ 1 }
-    ensures room { All (λ script. length script ≤ result) scripts.now }
-    ensures few { result ≤ MOST_CALLS }
-{
-    match scripts.get(0) {
-        None => 0,
-        Some(script) => script.len() as u32,
-    }
-}
-
-/// Runs a world of at most one session, and writes the report with the printed tensors.
-pub fn run_report(alloc: Global, world: &World, printed: &[u32]) -> Result<Vec<u8>, NoMemory>
+    printed: &[u32],
+    gate: &G,
+) -> Result<(Vec<u8>, Closed<FiberStore>), NoMemory>
     requires runnable { IsRunnable world.now printed.now }
-    ensures printed { IfOk result (λ bytes. PrintsRun world.now printed.now bytes.items) }
+    ensures printed { IfOk result (λ r. PrintsRun world.now printed.now r.0.items) }
+    ensures left { IfOk result (λ r. IsLeftBy world.now (history world.now r.0.items) r.1) }
 {
-    let mut plain = Plain::open(alloc, world, most_calls(&world.scripts))?;
     let mut text = Vec::new(alloc);
-    run_sessions(alloc, world, &mut plain, &mut text)?;
-    write_history(plain.journal().as_slice(), &mut text)?;
-    write_tensors(world, &plain, printed, &mut text)?;
-    Ok(text)
+    let closed = run_world(rt, alloc, world, gate, &mut text)?;
+    write_history(closed.journal().as_slice(), &mut text)?;
+    write_tensors(alloc, world, &closed, printed, &mut text)?;
+    Ok((text, closed))
 }

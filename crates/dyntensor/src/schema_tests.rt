@@ -3,7 +3,9 @@ use crate::tests::{run, words_of};
 use crate::top::top_check;
 use dt_outside::{MemShelf, MemSink, SureShelf, SureSink};
 use std::alloc::Global;
+use std::sync::Wait;
 use std::test::Fail;
+use std::thread::Threads;
 
 /// A post kind that is too small for half a run, and a schema that keeps the rules.
 const BIG_AND_TREE: &[u8] =
@@ -107,7 +109,11 @@ fn a_check_that_cannot_write_leaves_a_beginning(rt: HostRuntime) -> Result<(), F
 }
 
 /// The status and the text of a run over a manifest and files of schemas.
-fn run_over_schemas(alloc: Global, manifest: &[u8]) -> Result<(u8, Vec<u8>), Fail> {
+fn run_over_schemas<R: Threads + Wait + Sync>(
+    rt: &R,
+    alloc: Global,
+    manifest: &[u8],
+) -> Result<(u8, Vec<u8>), Fail> {
     let files: [(&str, &[u8]); 8] = [
         ("m", manifest),
         ("big", BIG_AND_TREE),
@@ -118,7 +124,7 @@ fn run_over_schemas(alloc: Global, manifest: &[u8]) -> Result<(u8, Vec<u8>), Fai
         ("cut", b"schema a { node"),
         ("s", b"get v 1\n"),
     ];
-    run(alloc, &files)
+    run(rt, alloc, &files)
 }
 
 #[test]
@@ -159,7 +165,7 @@ fn faults_of_schema_lines_and_which_of_two_comes_first(rt: HostRuntime) -> Resul
         ),
     ];
     for (manifest, text) in rows {
-        let (status, written) = run_over_schemas(rt.alloc(), manifest)?;
+        let (status, written) = run_over_schemas(&rt, rt.alloc(), manifest)?;
         assert_eq!(rt; written.as_slice(), text);
         assert_eq!(rt; status, 2);
     }
@@ -170,11 +176,11 @@ fn faults_of_schema_lines_and_which_of_two_comes_first(rt: HostRuntime) -> Resul
 fn a_run_may_read_schemas(rt: HostRuntime) -> Result<(), Fail> {
     let manifest =
         b"schema three\ntensor v 5 as flat latches 1\nschema sixteen\nsession s\n".as_slice();
-    let (status, written) = run_over_schemas(rt.alloc(), manifest)?;
+    let (status, written) = run_over_schemas(&rt, rt.alloc(), manifest)?;
     assert_eq!(rt; written.as_slice(), b"refused m 3 limit\n".as_slice());
     assert_eq!(rt; status, 2);
     let manifest = b"schema three\ntensor v 5 as flat latches 1\nsession s\nprint v\n".as_slice();
-    let (status, written) = run_over_schemas(rt.alloc(), manifest)?;
+    let (status, written) = run_over_schemas(&rt, rt.alloc(), manifest)?;
     let report = b"session 1\n1 value 0\nhistory 1\n1 1\ntensor v 0\n".as_slice();
     assert_eq!(rt; written.as_slice(), report);
     assert_eq!(rt; status, 0);

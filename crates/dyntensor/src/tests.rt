@@ -1,8 +1,12 @@
 //! Runs with their exact texts.
 use crate::top::top_run;
-use dt_outside::{MemShelf, MemSink, OpenGate, SureShelf, SureSink};
+use dt_outside::{Gate, MemShelf, MemSink, OpenGate, Shelf, Sink, SureShelf, SureSink};
+use fiber_latch::Closed;
+use fiber_store::FiberStore;
 use std::alloc::{AllocError, Global};
+use std::sync::Wait;
 use std::test::Fail;
+use std::thread::Threads;
 
 const MANIFEST: &[u8] = b"tensor v 5 as flat latches 1\nsession s\n";
 
@@ -21,16 +25,44 @@ pub fn words_of(alloc: Global, words: &[&str]) -> Result<Vec<String>, AllocError
     Ok(all)
 }
 
-/// The status and the text of a run over these files.
-pub fn run(alloc: Global, files: &[(&str, &[u8])]) -> Result<(u8, Vec<u8>), Fail> {
+/// The status of a run on these words.
+pub fn run_words<R: Threads + Wait + Sync, S: Shelf, K: Sink>(
+    rt: &R,
+    alloc: Global,
+    words: &[String],
+    shelf: &mut S,
+    sink: &mut K,
+) -> u8 {
+    let mut end = None;
+    top_run(rt, alloc, words, shelf, sink, &OpenGate, &mut end)
+}
+
+/// The status, the text and what is left of the table, of a run over these files past a gate.
+pub fn run_past<R: Threads + Wait + Sync, G: Gate + Sync>(
+    rt: &R,
+    alloc: Global,
+    files: &[(&str, &[u8])],
+    gate: &G,
+) -> Result<(u8, Vec<u8>, Option<Closed<FiberStore>>), Fail> {
     let mut shelf = SureShelf::new(alloc);
     for (name, bytes) in files {
         shelf.add(name, bytes)?;
     }
     let mut sink = SureSink::new(alloc, 4096)?;
     let words = words_of(alloc, &["run", "m"])?;
-    let status = top_run(alloc, &words, &mut shelf, &mut sink, &OpenGate);
-    Ok((status, sink.bytes().to_vec(alloc)?))
+    let mut end = None;
+    let status = top_run(rt, alloc, &words, &mut shelf, &mut sink, gate, &mut end);
+    Ok((status, sink.bytes().to_vec(alloc)?, end))
+}
+
+/// The status and the text of a run over these files.
+pub fn run<R: Threads + Wait + Sync>(
+    rt: &R,
+    alloc: Global,
+    files: &[(&str, &[u8])],
+) -> Result<(u8, Vec<u8>), Fail> {
+    let (status, text, _end) = run_past(rt, alloc, files, &OpenGate)?;
+    Ok((status, text))
 }
 
 #[test]
@@ -41,7 +73,10 @@ fn a_report_is_written(rt: HostRuntime) -> Result<(), Fail> {
     shelf.add("m", b"tensor v 5 as flat latches 1\nload v t\nprint v\n")?;
     shelf.add("t", b"2 7\n")?;
     let mut sink = SureSink::new(alloc, 100)?;
-    let status = top_run(alloc, &words, &mut shelf, &mut sink, &OpenGate);
+    let mut end = None;
+    let status = top_run(
+        &rt, alloc, &words, &mut shelf, &mut sink, &OpenGate, &mut end,
+    );
     assert_eq!(rt; sink.bytes(), b"history 0\ntensor v 1\n2 7\n".as_slice());
     assert_eq!(rt; status, 0);
     Ok(())
@@ -49,7 +84,7 @@ fn a_report_is_written(rt: HostRuntime) -> Result<(), Fail> {
 
 #[test]
 fn scripts_print_their_reports(rt: HostRuntime) -> Result<(), Fail> {
-    let rows: [(&[u8], &[u8]); 13] = [
+    let rows: [(&[u8], &[u8]); 15] = [
         (SCRIPT, REPORT),
         (
             b"query a = (((((((((((((((((\n",
@@ -84,12 +119,20 @@ fn scripts_print_their_reports(rt: HostRuntime) -> Result<(), Fail> {
             b"session 1\n1 refused number whole\n2 refused number range\n3 ok\nhistory 1\n1 3\n",
         ),
         (
+            b"batch add v 4 1;set v 1 5 ; add v 1 -7;add v 4 1\nget v 1\nget v 4\n",
+            b"session 1\n1 ok\n2 value -2\n3 value 2\nhistory 3\n1 1\n1 2\n1 3\n",
+        ),
+        (
+            b"batch set v 1 1;set v 6 1\nbatch set v 2 2;\nbatch set v 3 3\nget v 1\nget v 3\n",
+            b"session 1\n1 refused range v 1 5\n2 refused form 17\n3 ok\n4 value 0\n5 value 3\nhistory 3\n1 3\n1 4\n1 5\n",
+        ),
+        (
             b"# two calls\r\n\r\n\tset  v 02\t+7 \r\n \n#\nget v 2",
             b"session 1\n1 ok\n2 value 7\nhistory 2\n1 1\n1 2\n",
         ),
     ];
     for (script, report) in rows {
-        let (status, text) = run(rt.alloc(), &[("m", MANIFEST), ("s", script)])?;
+        let (status, text) = run(&rt, rt.alloc(), &[("m", MANIFEST), ("s", script)])?;
         assert_eq!(rt; text.as_slice(), report);
         assert_eq!(rt; status, 0);
     }
@@ -127,7 +170,7 @@ fn data_is_loaded_and_printed(rt: HostRuntime) -> Result<(), Fail> {
         ),
     ];
     for (data, wanted, text) in rows {
-        let (status, written) = run(rt.alloc(), &[("m", manifest), ("b.tns", data)])?;
+        let (status, written) = run(&rt, rt.alloc(), &[("m", manifest), ("b.tns", data)])?;
         assert_eq!(rt; written.as_slice(), text);
         assert_eq!(rt; status, wanted);
     }
@@ -135,7 +178,11 @@ fn data_is_loaded_and_printed(rt: HostRuntime) -> Result<(), Fail> {
 }
 
 /// The report of a script over `v` and some small matrices and vectors.
-fn run_over_matrices(alloc: Global, script: &[u8]) -> Result<(u8, Vec<u8>), Fail> {
+fn run_over_matrices<R: Threads + Wait + Sync>(
+    rt: &R,
+    alloc: Global,
+    script: &[u8],
+) -> Result<(u8, Vec<u8>), Fail> {
     let manifest =
         b"tensor v 5 as flat latches 1\ntensor A 2 2 as flat flat latches 1\ntensor B 2 2 as flat flat latches 1\ntensor C 2 2 as flat flat latches 2\ntensor b 2 as flat latches 1\ntensor x 2 as flat latches 2\ntensor z 2 as flat latches 1\nload A A.tns\nload B B.tns\nload C C.tns\nload x x.tns\nload z z.tns\nsession s\n".as_slice();
     let files = [
@@ -147,7 +194,7 @@ fn run_over_matrices(alloc: Global, script: &[u8]) -> Result<(u8, Vec<u8>), Fail
         ("z.tns", b"1 10\n2 20\n"),
         ("s", script),
     ];
-    run(alloc, &files)
+    run(rt, alloc, &files)
 }
 
 #[test]
@@ -205,7 +252,7 @@ fn queries_print_their_answers(rt: HostRuntime) -> Result<(), Fail> {
         ),
     ];
     for (script, report) in rows {
-        let (status, text) = run_over_matrices(rt.alloc(), script)?;
+        let (status, text) = run_over_matrices(&rt, rt.alloc(), script)?;
         assert_eq!(rt; text.as_slice(), report);
         assert_eq!(rt; status, 0);
     }
@@ -217,7 +264,7 @@ fn a_query_of_unequal_dimensions_is_refused(rt: HostRuntime) -> Result<(), Fail>
     let manifest =
         b"tensor B 2 3 as flat flat latches 1\ntensor v 5 as flat latches 1\nsession s\n".as_slice();
     let script = b"query a(i) = B(i,j)*v(j)\nquery a = v(i,j)\n".as_slice();
-    let (status, text) = run(rt.alloc(), &[("m", manifest), ("s", script)])?;
+    let (status, text) = run(&rt, rt.alloc(), &[("m", manifest), ("s", script)])?;
     let report =
         b"session 1\n1 refused dimension j 3 5\n2 refused rank v 2 1\nhistory 0\n".as_slice();
     assert_eq!(rt; text.as_slice(), report);
@@ -226,18 +273,21 @@ fn a_query_of_unequal_dimensions_is_refused(rt: HostRuntime) -> Result<(), Fail>
 }
 
 /// The files that the manifests of the next tests name.
-const FILES: [(&str, &[u8]); 5] = [
+const FILES: [(&str, &[u8]); 4] = [
     ("a", b"2 1 1 1 2 -1\n1 2 1 1 1 2\n"),
     ("b", b"5 9\n1 8\n"),
     ("s", SCRIPT),
-    ("q", b"get v 1\nbatch set v 1 1\n"),
-    ("r", b"batch set v 1 1\n"),
+    ("q", b"get v 1\n"),
 ];
 
 /// The status and the text of a run over a manifest and those files.
-fn run_manifest(alloc: Global, manifest: &[u8]) -> Result<(u8, Vec<u8>), Fail> {
-    let [a, b, s, q, r] = FILES;
-    run(alloc, &[("m", manifest), a, b, s, q, r])
+fn run_manifest<R: Threads + Wait + Sync>(
+    rt: &R,
+    alloc: Global,
+    manifest: &[u8],
+) -> Result<(u8, Vec<u8>), Fail> {
+    let [a, b, s, q] = FILES;
+    run(rt, alloc, &[("m", manifest), a, b, s, q])
 }
 
 #[test]
@@ -258,7 +308,7 @@ fn several_tensors_are_loaded_changed_and_printed(rt: HostRuntime) -> Result<(),
         ),
     ];
     for (manifest, text) in rows {
-        let (status, written) = run_manifest(rt.alloc(), manifest)?;
+        let (status, written) = run_manifest(&rt, rt.alloc(), manifest)?;
         assert_eq!(rt; written.as_slice(), text);
         assert_eq!(rt; status, 0);
     }
@@ -267,7 +317,7 @@ fn several_tensors_are_loaded_changed_and_printed(rt: HostRuntime) -> Result<(),
 
 #[test]
 fn the_first_fault_names_its_file_and_line(rt: HostRuntime) -> Result<(), Fail> {
-    let rows: [(&[u8], &[u8]); 15] = [
+    let rows: [(&[u8], &[u8]); 13] = [
         (
             b"print v\ntensor v 5 as flat latches 1\n",
             b"refused m 1 name\n",
@@ -277,8 +327,8 @@ fn the_first_fault_names_its_file_and_line(rt: HostRuntime) -> Result<(), Fail> 
             b"refused m 5 limit\n",
         ),
         (
-            b"tensor v 5 as flat latches 1\nsession s\nsession t\n",
-            b"refused m 3 not built\n",
+            b"tensor v 5 as flat latches 1\nsession s\nload v b\nsession s\n",
+            b"refused m 3 order\n",
         ),
         (b"schema q\n", b"refused q 1 form 1\n"),
         (b"tensor v 5 as flat\n", b"refused m 1 form\n"),
@@ -308,17 +358,9 @@ fn the_first_fault_names_its_file_and_line(rt: HostRuntime) -> Result<(), Fail> 
             b"tensor v 5 as flat latches 1\nload v a\nput\n",
             b"refused m 3 form\n",
         ),
-        (
-            b"tensor v 5 as flat latches 1\nsession q\n",
-            b"refused q 2 not built\n",
-        ),
-        (
-            b"tensor v 5 as flat latches 1\nsession r\n",
-            b"refused r 1 not built\n",
-        ),
     ];
     for (manifest, text) in rows {
-        let (status, written) = run_manifest(rt.alloc(), manifest)?;
+        let (status, written) = run_manifest(&rt, rt.alloc(), manifest)?;
         assert_eq!(rt; written.as_slice(), text);
         assert_eq!(rt; status, 2);
     }
@@ -332,7 +374,7 @@ fn other_words_print_the_usage(rt: HostRuntime) -> Result<(), Fail> {
         let mut shelf = SureShelf::new(rt.alloc());
         let mut sink = SureSink::new(rt.alloc(), 100)?;
         let words = words_of(rt.alloc(), words)?;
-        let status = top_run(rt.alloc(), &words, &mut shelf, &mut sink, &OpenGate);
+        let status = run_words(&rt, rt.alloc(), &words, &mut shelf, &mut sink);
         assert_eq!(rt; sink.bytes(), USAGE);
         assert_eq!(rt; status, 1);
     }
@@ -348,7 +390,7 @@ fn a_failed_fetch_names_its_file(rt: HostRuntime) -> Result<(), Fail> {
         shelf.add("s", SCRIPT)?;
         let mut sink = SureSink::new(rt.alloc(), 100)?;
         let words = words_of(rt.alloc(), &["run", "m"])?;
-        let status = top_run(rt.alloc(), &words, &mut shelf, &mut sink, &OpenGate);
+        let status = run_words(&rt, rt.alloc(), &words, &mut shelf, &mut sink);
         assert_eq!(rt; sink.bytes(), line);
         assert_eq!(rt; status, wanted);
     }
@@ -361,7 +403,7 @@ fn a_missing_script_is_a_failed_fetch(rt: HostRuntime) -> Result<(), Fail> {
     shelf.add("m", MANIFEST)?;
     let mut sink = SureSink::new(rt.alloc(), 100)?;
     let words = words_of(rt.alloc(), &["run", "m"])?;
-    let status = top_run(rt.alloc(), &words, &mut shelf, &mut sink, &OpenGate);
+    let status = run_words(&rt, rt.alloc(), &words, &mut shelf, &mut sink);
     assert_eq!(rt; sink.bytes(), b"shelf s\n".as_slice());
     assert_eq!(rt; status, 3);
     Ok(())
@@ -384,8 +426,18 @@ fn a_failed_write_leaves_a_beginning(rt: HostRuntime) -> Result<(), Fail> {
         let mut sink = MemSink::new(rt.alloc(), 10, [fails].to_vec(rt.alloc())?);
         sink.room(43)?;
         let words = words_of(rt.alloc(), &["run", "m"])?;
-        let status = top_run(rt.alloc(), &words, &mut shelf, &mut sink, &OpenGate);
+        let mut end = None;
+        let status = top_run(
+            &rt,
+            rt.alloc(),
+            &words,
+            &mut shelf,
+            &mut sink,
+            &OpenGate,
+            &mut end,
+        );
         assert_eq!(rt; status, wanted);
+        assert!(rt; end.is_some());
         assert_eq!(rt; sink.bytes().len(), len);
         assert!(rt; REPORT.starts_with(sink.bytes()));
     }

@@ -1,5 +1,5 @@
 //! The top calls of `run` and `check`.
-ghost use Rattle.std.specs.Prelude.{◌≡◌, ◌≢◌, ◌≤◌, ◌↔◌, map, string_bytes, None, IfSome};
+ghost use Rattle.std.specs.Prelude.{◌≡◌, ◌≢◌, ◌≤◌, ◌↔◌, map, string_bytes, None, IfSome, IsSome};
 ghost use Rattle.dt_outside.specs.Faults.{HasRisen};
 ghost use Rattle.dyntensor.specs.Checks.{PrintsChecks, HasCheckCause, CompletesCheck};
 ghost use Rattle.dyntensor.specs.Commands.{manifest_named, schemas_named};
@@ -10,25 +10,37 @@ use crate::checks::outcome_of_check;
 use crate::drivers::outcome_of;
 use crate::outcomes::write_outcome;
 use dt_outside::{Gate, Shelf, Sink};
+use fiber_latch::Closed;
+use fiber_store::FiberStore;
 use std::alloc::Global;
+use std::sync::Wait;
+use std::thread::Threads;
 
 /// Runs the workload of the manifest that the words name, writes the text due, and answers the
 /// status: 0 a report, 1 the usage line, 2 a fault of the workload, 3 a file that the shelf failed to
 /// give, 4 a sink that failed, 5 out of memory outside a session's call. The texts of 1, 3 and 5
-/// take no memory.
-pub fn top_run<S: Shelf, K: Sink, G: Gate + Sync>(
+/// take no memory. Each session runs on a thread of its own, if there is one to be had; no clause names an order in
+/// which their calls take effect. The gate is told of each call that holds its fibers. If the text due is a report,
+/// `end` has what is left of the table of latches then.
+pub fn top_run<R: Threads + Wait + Sync, S: Shelf, K: Sink, G: Gate + Sync>(
+    rt: &R,
     alloc: Global,
     words: &[String],
     shelf: &mut S,
     sink: &mut K,
     gate: &G,
+    end: &mut Option<Closed<FiberStore>>,
 ) -> u8
-    // Status 0: what was written is the report of the history that it has, over the workload of the files.
+    requires empty { end.old ≡ None }
+
+    // Status 0: what was written is the report of the history that it has, over the workload of the files. `end` has that
+    // history, and for each latch a store that is sound, with what the history leaves in its cells.
     ensures headline { result ≡ 0 → IfSome (S.state shelf.old).files (λ files. IfSome (manifest_named (map string_bytes words.now))
-        (λ manifest. WritesWhere (PrintsWorkload files manifest) (K.written sink.old) (K.written sink.new))) }
+        (λ manifest. WritesWhere (PrintsWorkload files manifest end.new) (K.written sink.old) (K.written sink.new))) }
 
     // Every status: the text that was written is due for it, or at 4 a beginning of one that is due, each with its cause.
-    ensures ended { Ends (HasCause (manifest_named (map string_bytes words.now)) (S.state shelf.old) (S.state shelf.new)) result (K.written sink.old) (K.written sink.new) (K.faults sink.old) (K.faults sink.new) }
+    // Where a report is due, `end` has what is left of its table, and else it has nothing.
+    ensures ended { Ends (HasCause (manifest_named (map string_bytes words.now)) (S.state shelf.old) (S.state shelf.new) end.new) result (K.written sink.old) (K.written sink.new) (K.faults sink.old) (K.faults sink.new) }
     ensures statuses { result ≤ 5 }
 
     // Each fault has its cause.
@@ -36,15 +48,14 @@ pub fn top_run<S: Shelf, K: Sink, G: Gate + Sync>(
     ensures shelf { result ≡ 3 → HasRisen (S.state shelf.old).faults (S.state shelf.new).faults }
     ensures sink { result ≡ 4 → HasRisen (K.faults sink.old) (K.faults sink.new) }
     ensures quiet { result ≢ 4 → K.faults sink.new ≡ K.faults sink.old }
+    ensures end { result ≢ 4 → ((result ≡ 0) ↔ IsSome end.new) }
 
     // Where no count rises, a sound workload is run and a faulty one is refused, unless the run is out of memory.
     ensures complete { (HasRisen (S.state shelf.old).faults (S.state shelf.new).faults → ⊥) → (HasRisen (K.faults sink.old) (K.faults sink.new) → ⊥) → IfSome (S.state shelf.old).files
         (λ files. IfSome (manifest_named (map string_bytes words.now)) (λ manifest. Completes files manifest result)) }
     ensures files { (S.state shelf.new).files ≡ (S.state shelf.old).files }
 {
-    // Unused until calls run on several threads.
-    let _ = gate;
-    let outcome = outcome_of(alloc, words, shelf);
+    let outcome = outcome_of(rt, alloc, words, shelf, gate, end);
     write_outcome(sink, &outcome)
 }
 

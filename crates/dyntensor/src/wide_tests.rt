@@ -1,7 +1,7 @@
 //! A run over tensors that are far too wide to go through.
-use crate::top::top_run;
+use crate::tests::run_words;
 use dt_model::NoMemory;
-use dt_outside::{OpenGate, SureShelf, SureSink};
+use dt_outside::{SureShelf, SureSink};
 use dt_text::{append, write_number};
 use std::alloc::Global;
 use std::test::Fail;
@@ -47,7 +47,7 @@ fn a_query_goes_through_rows_that_agree(rt: HostRuntime) -> Result<(), Fail> {
         String::from_str(alloc, "run")?,
         String::from_str(alloc, "m")?,
     ];
-    let status = top_run(alloc, &words, &mut shelf, &mut sink, &OpenGate);
+    let status = run_words(&rt, alloc, &words, &mut shelf, &mut sink);
     let report =
         b"session 1\n1 result 1\n9045050\n2 result 1\n122718374992500\n3 result 0\n4 value 1\nhistory 4\n1 1\n1 2\n1 3\n1 4\n".as_slice();
     assert_eq!(rt; sink.bytes(), report);

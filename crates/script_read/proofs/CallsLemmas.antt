@@ -1,27 +1,13 @@
 -- Calls, word by word.
-use Rattle.std.proofs.Common.{◌≡◌, ◌<◌, ◌+◌, ◌-◌, ◌∷◌, [], ℕ, true, false, List, map, length, take, drop, get_or, Option, Some, None, Result, Ok, Err, refl, ap, sym, subst, ◌∙◌, arith}
-use Rattle.std.specs.Prelude.{⊤, MatchResult, if◌then◌else◌, nat_le}
-use Rattle.std.specs.List.{list_all}
-use Rattle.dt_model.specs.declared.limits.TheConstants.{MOST_UPDATES}
-use Rattle.dt_model.specs.declared.replies.Refusal.{Refusal}
+use Rattle.std.proofs.Common.{◌≡◌, ◌+◌, ◌∷◌, [], ℕ, true, List, drop, Option, Some, None, Result, Ok, Err, refl, sym, subst}
+use Rattle.std.specs.Prelude.{⊤, MatchResult}
 use Rattle.dt_model.specs.declared.replies.Refusal.TheVariants.{Form, Limit}
 use Rattle.dt_model.specs.declared.statements.Stmt.{Stmt}
 use Rattle.dt_model.specs.declared.written.UpdateKind.{UpdateKind}
 use Rattle.dt_model.specs.declared.written.UpdateKind.TheVariants as kind
 use Rattle.dt_model.specs.declared.written.WrittenCall.{WrittenCall}
 use Rattle.dt_model.specs.declared.written.WrittenCall.TheVariants as written
-use Rattle.dt_model.specs.declared.written.WrittenCoordinate.{WrittenCoordinate}
-use Rattle.dt_model.specs.declared.written.WrittenNumber.{WrittenNumber}
-use Rattle.dt_model.specs.declared.written.WrittenUpdate.{WrittenUpdate}
 use Rattle.dt_model.specs.Names.{is_name}
-use Rattle.dt_model.specs.Texts.{number_of}
-use Rattle.dt_model.specs.Worlds.{refusal_is_named}
-use Rattle.dt_text.specs.Numerals.{index_in_range}
-use Rattle.dt_text.specs.Values.{value_of}
-use Rattle.dt_text.specs.declared.numerals.IndexFault.{IndexFault}
-use Rattle.dt_text.specs.declared.numerals.IndexFault.TheVariants as index
-use Rattle.dt_text.specs.declared.values.NumFault.{NumFault}
-use Rattle.dt_text.specs.declared.values.NumFault.TheVariants as value
 use Rattle.index_read.specs.declared.read.StmtFault.{StmtFault}
 use Rattle.index_read.specs.declared.read.StmtFault.TheVariants as fault
 use Rattle.index_read.specs.Meaning.{statement_in, AnswersReading, Reads, StmtText}
@@ -31,44 +17,14 @@ use Rattle.script_read.specs.declared.line_faults.LineFault.{LineFault}
 use Rattle.script_read.specs.declared.line_faults.LineFault.TheVariants as line
 use Rattle.script_read.specs.declared.verbs.Verb.{Verb}
 use Rattle.script_read.specs.declared.verbs.Verb.TheVariants as verb
-use Rattle.script_read.specs.declared.words.Word.{Word}
 use Rattle.script_read.specs.Readings.{◌>>=◌}
-use Rattle.script_read.specs.Words.{seen_word}
 use Rattle.script_read.specs.LineFaults.{Gives, IsLineFault}
-use Rattle.script_read.specs.Parts.{coordinates_and_number}
-use Rattle.script_read.specs.Calls.{written_name, coordinate_at, written_coordinate, written_coordinates, number_at, written_number, with_coordinate, written_arguments, written_update, written_batch, written_get, stmt_behind, written_query, verb_of, call_of_verb, call_of_words}
-
--- a coordinate before other coordinates and a number
-regrouped : (r : Result WrittenCoordinate Refusal) (s : Result (List WrittenCoordinate) Refusal) (t : Result WrittenNumber Refusal)
-    → (r >>= (λ c. coordinates_and_number s t >>= (λ p. Ok (with_coordinate c p)))) ≡ coordinates_and_number (r >>= (λ c. s >>= (λ cs. Ok (c ∷ cs)))) t
-regrouped (Err e) s t = refl
-regrouped (Ok c) (Err e) t = refl
-regrouped (Ok c) (Ok cs) (Err e) = refl
-regrouped (Ok c) (Ok cs) (Ok n) = refl
-
--- a number alone
-alone : (t : Result WrittenNumber Refusal) → (t >>= (λ n. Ok ([], n))) ≡ coordinates_and_number (Ok []) t
-alone (Ok n) = refl
-alone (Err e) = refl
-
--- the words before the last are coordinates, and the last is the number
-arguments_behind : (end : ℕ) (w : Word) (ws : List Word) (z : Word)
-    → written_arguments end (map seen_word (w ∷ ws)) ≡ coordinates_and_number (written_coordinates (map seen_word (take (length ws) (w ∷ ws))))
-    (written_number (seen_word (get_or (w ∷ ws) (length ws) z)))
-arguments_behind end w [] z = alone (written_number (seen_word w))
-arguments_behind end w (x ∷ xs) z =
-    ap (λ r. written_coordinate (seen_word w) >>= (λ c. r >>= (λ p. Ok (with_coordinate c p)))) (arguments_behind end x xs z)
-    ∙ regrouped (written_coordinate (seen_word w)) (written_coordinates (map seen_word (take (length xs) (x ∷ xs))))
-    (written_number (seen_word (get_or (x ∷ xs) (length xs) z)))
-
--- the same by the number of words
-pub written_arguments-last : (end : ℕ) (ws : List Word) (z : Word) → 0 < length ws
-    → written_arguments end (map seen_word ws) ≡ coordinates_and_number (written_coordinates (map seen_word (take (length ws - 1) ws)))
-    (written_number (seen_word (get_or ws (length ws - 1) z)))
-written_arguments-last end [] z h = absurd (omega arith)
-written_arguments-last end (w ∷ ws) z h =
-    let less : length (w ∷ ws) - 1 ≡ length ws = omega arith in
-    rw less (arguments_behind end w ws z)
+use Rattle.script_read.specs.Verbs.{verb_of}
+use Rattle.script_read.specs.Updates.{written_name, written_coordinates, written_update}
+use Rattle.script_read.specs.Batches.{parts_of, without_blank_end, written_updates, written_batch}
+use Rattle.script_read.specs.Calls.{written_single, written_get, stmt_behind, written_query, call_of_verb, call_of_words}
+use Rattle.script_read.proofs.UpdatesLemmas.{IsNamedRefusal, then_fits, name_fits, coordinates_fit, update_fits}
+use Rattle.script_read.proofs.BatchesLemmas.{AreNamedUpdates, written_updates-named}
 
 -- ---- statements
 
@@ -105,60 +61,14 @@ written_query-writes before line stmt e = written_by before (drop before line) (
 
 -- ---- what is read names names
 
--- a refusal that names names
-abbrev pub IsNamedRefusal : Refusal → Type 0
-IsNamedRefusal r = refusal_is_named r ≡ true
-
 -- a call of 1 to 64 updates, or of a cell, each of a tensor with a name, or a small statement whose names are names
 abbrev pub IsNamedCall : WrittenCall → Type 0
 IsNamedCall (written.Get n cs) = is_name n ≡ true
-IsNamedCall (written.Batch us) = (nat_le 1 (length us) ≡ true) × (nat_le (length us) MOST_UPDATES ≡ true) × (list_all (λ u. is_name u.name) us ≡ true)
+IsNamedCall (written.Batch us) = AreNamedUpdates us
 IsNamedCall (written.Query s) = IsNamedStmt s
 
--- a reading that another follows
-then_fits : {X Y : Type 0} (P : X → Type 0) (Q : Y → Type 0) (r : Result X Refusal) (f : X → Result Y Refusal) → MatchResult r P IsNamedRefusal
-    → ((x : X) → P x → MatchResult (f x) Q IsNamedRefusal) → MatchResult (r >>= f) Q IsNamedRefusal
-then_fits P Q (Ok x) f h k = k x h
-then_fits P Q (Err e) f h k = h
-
-name_fits : (w : ℕ × List ℕ) → MatchResult (written_name w) (λ n. is_name n ≡ true) IsNamedRefusal
-name_fits w = elim (is_name w.1) as (λ b. is_name w.1 ≡ b → MatchResult (if b then Ok w.1 else Err (Form w.0)) (λ n. is_name n ≡ true) IsNamedRefusal)
-    [ true ↦ λ e. e | false ↦ λ e. refl ] refl
-
-coordinate_fits : (c : ℕ) (r : Result ℕ IndexFault) → MatchResult (coordinate_at c r) (λ x. Unit {0}) IsNamedRefusal
-coordinate_fits c (Ok n) = tt
-coordinate_fits c (Err index.Range) = tt
-coordinate_fits c (Err index.Form) = refl
-
-number_fits : (c : ℕ) (r : Result ℕ NumFault) → MatchResult (number_at c r) (λ x. Unit {0}) IsNamedRefusal
-number_fits c (Ok v) = tt
-number_fits c (Err value.NotWhole) = tt
-number_fits c (Err value.Range) = tt
-number_fits c (Err value.Form) = refl
-
-coordinates_fit : (ws : List (ℕ × List ℕ)) → MatchResult (written_coordinates ws) (λ x. Unit {0}) IsNamedRefusal
-coordinates_fit [] = tt
-coordinates_fit (w ∷ ws) = then_fits (λ x. Unit {0}) (λ x. Unit {0}) (written_coordinate w) (λ c. written_coordinates ws >>= (λ cs. Ok (c ∷ cs)))
-    (coordinate_fits w.0 (index_in_range (number_of w.1)))
-    (λ c _. then_fits (λ x. Unit {0}) (λ x. Unit {0}) (written_coordinates ws) (λ cs. Ok (c ∷ cs)) (coordinates_fit ws) (λ cs _. tt))
-
-arguments_fit : (end : ℕ) (ws : List (ℕ × List ℕ)) → MatchResult (written_arguments end ws) (λ x. Unit {0}) IsNamedRefusal
-arguments_fit end [] = refl
-arguments_fit end (v ∷ []) = then_fits (λ x. Unit {0}) (λ x. Unit {0}) (written_number v) (λ n. Ok ([], n)) (number_fits v.0 (value_of v.1)) (λ n _. tt)
-arguments_fit end (c ∷ w ∷ ws) = then_fits (λ x. Unit {0}) (λ x. Unit {0}) (written_coordinate c)
-    (λ x. written_arguments end (w ∷ ws) >>= (λ p. Ok (with_coordinate x p))) (coordinate_fits c.0 (index_in_range (number_of c.1)))
-    (λ x _. then_fits (λ x. Unit {0}) (λ x. Unit {0}) (written_arguments end (w ∷ ws)) (λ p. Ok (with_coordinate x p)) (arguments_fit end (w ∷ ws)) (λ p _. tt))
-
-update_fits : (k : UpdateKind) (end : ℕ) (ws : List (ℕ × List ℕ)) → MatchResult (written_update k end ws) (λ u. is_name u.name ≡ true) IsNamedRefusal
-update_fits k end [] = refl
-update_fits k end (w ∷ ws) =
-    let with_arguments : List ℕ → List WrittenCoordinate × WrittenNumber
-    → Result WrittenUpdate Refusal = λ n p. Ok (record { kind = k; name = n; coordinates = p.0; number = p.1 }) in
-    then_fits (λ n. is_name n ≡ true) (λ u. is_name u.name ≡ true) (written_name w) (λ n. written_arguments end ws >>= with_arguments n) (name_fits w)
-    (λ n named. then_fits (λ x. Unit {0}) (λ u. is_name u.name ≡ true) (written_arguments end ws) (with_arguments n) (arguments_fit end ws) (λ p _. named))
-
-batch_fits : (k : UpdateKind) (end : ℕ) (ws : List (ℕ × List ℕ)) → MatchResult (written_batch k end ws) IsNamedCall IsNamedRefusal
-batch_fits k end ws = then_fits (λ u. is_name u.name ≡ true) IsNamedCall (written_update k end ws) (λ u. Ok (written.Batch (u ∷ []))) (update_fits k end ws)
+single_fits : (k : UpdateKind) (end : ℕ) (ws : List (ℕ × List ℕ)) → MatchResult (written_single k end ws) IsNamedCall IsNamedRefusal
+single_fits k end ws = then_fits (λ u. is_name u.name ≡ true) IsNamedCall (written_update k end ws) (λ u. Ok (written.Batch (u ∷ []))) (update_fits k end ws)
     (λ u named. (refl, refl, rw named refl))
 
 get_fits : (end : ℕ) (ws : List (ℕ × List ℕ)) → MatchResult (written_get end ws) IsNamedCall IsNamedRefusal
@@ -166,6 +76,12 @@ get_fits end [] = refl
 get_fits end (w ∷ ws) = then_fits (λ n. is_name n ≡ true) IsNamedCall (written_name w) (λ n. written_coordinates ws >>= (λ cs. Ok (written.Get n cs)))
     (name_fits w)
     (λ n named. then_fits (λ x. Unit {0}) IsNamedCall (written_coordinates ws) (λ cs. Ok (written.Get n cs)) (coordinates_fit ws) (λ cs _. named))
+
+batch_fits : (before : ℕ) (line : List ℕ) → MatchResult (written_batch before line) IsNamedCall IsNamedRefusal
+batch_fits before line =
+    let text = drop before (without_blank_end line) in
+    then_fits AreNamedUpdates IsNamedCall (written_updates (parts_of before text)) (λ us. Ok (written.Batch us)) (written_updates-named before text)
+    (λ us named. named)
 
 stmt_fits : (before : ℕ) (r : Result Stmt StmtFault) → MatchResult r IsNamedStmt (λ fault. ⊤) → MatchResult (stmt_behind before r) IsNamedStmt IsNamedRefusal
 stmt_fits before (Ok stmt) h = h
@@ -181,9 +97,10 @@ query_fits before line =
 verb_fits : (line : List ℕ) (column end : ℕ) (o : Option Verb) (ws : List (ℕ × List ℕ))
     → MatchResult (call_of_verb line column end o ws) IsNamedCall IsNamedRefusal
 verb_fits line column end None ws = refl
-verb_fits line column end (Some verb.Set) ws = batch_fits kind.Set end ws
-verb_fits line column end (Some verb.Add) ws = batch_fits kind.Add end ws
+verb_fits line column end (Some verb.Set) ws = single_fits kind.Set end ws
+verb_fits line column end (Some verb.Add) ws = single_fits kind.Add end ws
 verb_fits line column end (Some verb.Get) ws = get_fits end ws
+verb_fits line column end (Some verb.Batch) ws = batch_fits (column + 4) line
 verb_fits line column end (Some verb.Query) ws = query_fits (column + 4) line
 
 -- the call that the words of a line write names names, or its refusal does

@@ -4,5 +4,7 @@ pub mod WordsLemmas
 pub mod ManifestLinesLemmas
 pub mod ManifestsLemmas
 pub mod StatementNames
+pub mod UpdatesLemmas
+pub mod BatchesLemmas
 pub mod CallsLemmas
 pub mod ScriptsLemmas

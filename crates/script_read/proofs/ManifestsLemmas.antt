@@ -15,7 +15,7 @@ use Rattle.script_read.specs.declared.item_lines.ItemLine.TheVariants.{Whole, Ou
 use Rattle.script_read.specs.declared.declarations.Declared.{Declared}
 use Rattle.script_read.specs.Readings.{◌>>=◌, check, at_line, each_after}
 use Rattle.script_read.specs.ManifestLines.{item_line}
-use Rattle.script_read.specs.Manifests.{nothing, declared_with, declared_by, is_declared, is_built, is_in_order, is_known, is_new, in_range, is_within_limits, item_in_turn, item_after, numbered_item, manifest_of}
+use Rattle.script_read.specs.Manifests.{nothing, declared_with, declared_by, is_declared, is_in_order, is_known, is_new, in_range, is_within_limits, item_in_turn, item_after, numbered_item, manifest_of}
 use Rattle.script_read.specs.Sound.{IsSoundLine, IsSoundItem, MayAsk, AreSound}
 use Rattle.script_read.proofs.ReadingsLemmas.{IfSome-at, check-Ok, Ok-same, Err-Ok, each_after-keeps}
 use Rattle.script_read.proofs.ManifestLinesLemmas.{item_line-sound}
@@ -65,12 +65,8 @@ from_new d line = check (is_new d line) because.Twice >>= (λ _. from_range d li
 abbrev from_known : Declared → ItemLine → Result Item FileCause
 from_known d line = check (is_known d line) because.Name >>= (λ _. from_new d line)
 
-abbrev from_order : Declared → ItemLine → Result Item FileCause
-from_order d line = check (is_in_order d line) because.Order >>= (λ _. from_known d line)
-
 -- the tests that a line passed whose item was read
 record PassesTests (d : Declared) (line : ItemLine) (item : Item) : Type 0 where
-  pub built : is_built d line ≡ true
   pub order : is_in_order d line ≡ true
   pub known : is_known d line ≡ true
   pub fresh : is_new d line ≡ true
@@ -78,11 +74,10 @@ record PassesTests (d : Declared) (line : ItemLine) (item : Item) : Type 0 where
 
 passes_tests : (d : Declared) (line : ItemLine) (item : Item) → item_in_turn d line ≡ Ok item → PassesTests d line item
 passes_tests d line item e =
-    let a = check-Ok (is_built d line) because.NotBuilt (λ _. from_order d line) item e in
-    let b = check-Ok (is_in_order d line) because.Order (λ _. from_known d line) item a.1 in
-    let c = check-Ok (is_known d line) because.Name (λ _. from_new d line) item b.1 in
-    let f = check-Ok (is_new d line) because.Twice (λ _. from_range d line) item c.1 in
-    record { built = a.0; order = b.0; known = c.0; fresh = f.0; ranged = f.1 }
+    let a = check-Ok (is_in_order d line) because.Order (λ _. from_known d line) item e in
+    let b = check-Ok (is_known d line) because.Name (λ _. from_new d line) item a.1 in
+    let c = check-Ok (is_new d line) because.Twice (λ _. from_range d line) item b.1 in
+    record { order = a.0; known = b.0; fresh = c.0; ranged = c.1 }
 
 -- the item of a line in range keeps the limits
 kept : (d : Declared) (x item : Item) → limits_kept d x ≡ Ok item → (x ≡ item) × (is_within_limits (declared_with d x) ≡ true)
@@ -102,7 +97,7 @@ may_ask : (d : Declared) (x : Item) (item : Item) → IsSoundLine (Whole x) → 
 may_ask d (Schema file) item h t = no_session d t.order
 may_ask d (Tensor name dims formats latches) item h t = (h, record { fresh = negated (is_declared d name) t.fresh; early = no_session d t.order })
 may_ask d (Load name file) item h t = record { declared = t.known; early = no_session d t.order }
-may_ask d (Session file) item h t = no_session d t.built
+may_ask d (Session file) item h t = tt
 may_ask d (Print name) item h t = t.known
 
 sound_in_turn : (d : Declared) (line : ItemLine) (item : Item) → IsSoundLine line → item_in_turn d line ≡ Ok item → IsSoundItem d item

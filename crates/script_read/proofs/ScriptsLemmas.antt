@@ -28,7 +28,6 @@ use Rattle.dt_model.specs.declared.written.WrittenNumber.TheVariants as number
 use Rattle.dt_model.specs.declared.written.WrittenUpdate.{WrittenUpdate}
 use Rattle.dt_model.specs.Names.{is_name}
 use Rattle.dt_model.specs.Tensors.{tensor_named, dims_of}
-use Rattle.dt_model.specs.Texts.{words_of}
 use Rattle.dt_model.specs.Refusals.{or_else, when, first_of_all, is_in_dimension, range_fault, cell_fault, cell_fault_in, number_fault, update_fault, statement_fault}
 use Rattle.dt_model.specs.Verdicts.{from_zero, cell_of, written_value, update_of_kind, update_of, unless_refused, verdict, all_in_range, cell_is_valid, update_cell, is_small, call_is_valid}
 use Rattle.dt_model.specs.Worlds.{updates_in, verdict_is_valid}
@@ -38,13 +37,14 @@ use Rattle.tns_io.specs.declared.faults.FileCause.{FileCause}
 use Rattle.tns_io.specs.declared.faults.FileCause.TheVariants as cause
 use Rattle.script_read.specs.Readings.{◌>>=◌, check, at_line}
 use Rattle.script_read.specs.Words.{columned_words}
-use Rattle.script_read.specs.Calls.{written_call, is_built}
+use Rattle.script_read.specs.Calls.{written_call}
 use Rattle.script_read.specs.Scripts.{verdict_on, line_verdict, verdict_behind, numbered_verdict, script_of}
 use Rattle.script_read.specs.Sound.{IsSoundScript}
 use Rattle.script_read.proofs.ReadingsLemmas.{check-Ok, Ok-same, each_after-keeps}
 use Rattle.index_read.proofs.NamedStatements.{IsNamedStmt}
 use Rattle.script_read.proofs.StatementNames.{IsNamedFault, statement_fault-named}
-use Rattle.script_read.proofs.CallsLemmas.{IsNamedRefusal, IsNamedCall, call_of_words-named}
+use Rattle.script_read.proofs.UpdatesLemmas.{IsNamedRefusal}
+use Rattle.script_read.proofs.CallsLemmas.{IsNamedCall, call_of_words-named}
 
 -- ---- cells
 
@@ -197,7 +197,7 @@ read_valid d (Err r) h = h
 
 -- the verdict on a line is valid
 pub line_verdict-valid : (d : Decls) (line : List ℕ) → verdict_is_valid d (line_verdict d line) ≡ true
-line_verdict-valid d line = read_valid d (written_call line) (call_of_words-named line (end_column line) (columned_words line))
+line_verdict-valid d line = read_valid d (written_call line) (call_of_words-named line (end_column line) (columned_words 0 line))
 
 -- ---- scripts
 
@@ -215,12 +215,9 @@ script_more d most vs v h low left valid =
       valid = list_all-append (verdict_is_valid d) vs (v ∷ []) all (rw valid refl);
     }
 
--- the rest of a line's tests, behind each of them
+-- the last of a line's tests
 abbrev within_updates : Decls → ℕ → List ℕ → Result Verdict FileCause
 within_updates d left line = check (nat_le (updates_in (line_verdict d line)) left) cause.Limit >>= (λ _. Ok (line_verdict d line))
-
-abbrev if_built : Decls → ℕ → List ℕ → Result Verdict FileCause
-if_built d left line = check (is_built (words_of line)) cause.NotBuilt >>= (λ _. within_updates d left line)
 
 -- a numbered reading gives what the reading gives
 unnumbered : (n : ℕ) (r : Result Verdict FileCause) (v : Verdict) → at_line n r ≡ Ok v → r ≡ Ok v
@@ -233,9 +230,8 @@ line_more : (d : Decls) (most : ℕ) (vs : List Verdict) (line : ℕ × List ℕ
 line_more d most vs line v h e =
     let left = most - sum_by updates_in vs in
     let r = unnumbered line.0 (verdict_behind d (length vs) left line.1) v e in
-    let a = check-Ok (is_within_limit line.1 && nat_lt (length vs) MOST_CALLS) cause.Limit (λ _. if_built d left line.1) v r in
-    let b = check-Ok (is_built (words_of line.1)) cause.NotBuilt (λ _. within_updates d left line.1) v a.1 in
-    let c = check-Ok (nat_le (updates_in (line_verdict d line.1)) left) cause.Limit (λ _. Ok (line_verdict d line.1)) v b.1 in
+    let a = check-Ok (is_within_limit line.1 && nat_lt (length vs) MOST_CALLS) cause.Limit (λ _. within_updates d left line.1) v r in
+    let c = check-Ok (nat_le (updates_in (line_verdict d line.1)) left) cause.Limit (λ _. Ok (line_verdict d line.1)) v a.1 in
     let low : length vs < MOST_CALLS = let t = (both_true (is_within_limit line.1) (nat_lt (length vs) MOST_CALLS) a.0).1 in grind (arith, nat_tests) in
     let few : updates_in (line_verdict d line.1) ≤ left = let t = c.0 in grind (arith, nat_tests) in
     subst (λ w. IsSoundScript d most (vs ++ w ∷ [])) (Ok-same (line_verdict d line.1) v c.1)

@@ -2,6 +2,9 @@ pub mod Readings
 pub mod Words
 pub mod ManifestLines
 pub mod Manifests
+pub mod Verbs
+pub mod Updates
+pub mod Batches
 pub mod Calls
 pub mod LineFaults
 pub mod Parts

@@ -1,5 +1,5 @@
 -- The first pass over a manifest: its items, or its first fault.
-use Rattle.std.specs.Prelude.{ℕ, ◌+◌, Bool, true, false, not, List, [], ◌∷◌, ◌++◌, fold, ok_or, Result, Ok, Err, ◌==◌, ◌&&◌, nat_le, length, nat_eq}
+use Rattle.std.specs.Prelude.{ℕ, ◌+◌, Bool, true, not, List, [], ◌∷◌, ◌++◌, fold, ok_or, Result, Ok, Err, ◌==◌, ◌&&◌, nat_le, length, nat_eq}
 use Rattle.std.specs.List.{list_any}
 use Rattle.std.specs.Cmp.Lexicographic.{pointwise}
 use Rattle.dt_model.specs.declared.limits.TheConstants.{MOST_LATCHES, MOST_PRINTS, MOST_SESSIONS, MOST_TENSORS}
@@ -40,11 +40,6 @@ is_declared d name = list_any (pointwise nat_eq name) d.tensors
 
 -- ---- the tests of a line, after what earlier lines declare
 
--- whether the program has the line's form: all but a second `session`
-abbrev pub is_built : Declared → ItemLine → Bool
-is_built d (Whole (Session file)) = d.sessions == 0
-is_built d line = true
-
 -- whether a `schema`, `tensor` or `load` line stands before each session
 abbrev pub is_in_order : Declared → ItemLine → Bool
 is_in_order d (Whole (Session file)) = true
@@ -75,13 +70,12 @@ is_within_limits d = nat_le (length d.tensors) MOST_TENSORS && nat_le d.sessions
 -- the item of a line that has a form, after what earlier lines declare; or its first fault
 abbrev pub item_in_turn : Declared → ItemLine → Result Item FileCause
 item_in_turn d line =
-    check (is_built d line) because.NotBuilt >>= (λ _.
     check (is_in_order d line) because.Order >>= (λ _.
     check (is_known d line) because.Name >>= (λ _.
     check (is_new d line) because.Twice >>= (λ _.
     in_range line >>= (λ item.
     check (is_within_limits (declared_with d item)) because.Limit >>= (λ _.
-    Ok item))))))
+    Ok item)))))
 
 -- the item of a line after what earlier lines declare; or the line's first fault
 abbrev pub item_after : Declared → List ℕ → Result Item FileCause

@@ -6,7 +6,6 @@ use Rattle.dt_model.specs.declared.replies.Refusal.{Refusal}
 use Rattle.dt_model.specs.declared.replies.Verdict.{Verdict}
 use Rattle.dt_model.specs.declared.replies.Verdict.TheVariants.{Refused}
 use Rattle.dt_model.specs.declared.written.WrittenCall.{WrittenCall}
-use Rattle.dt_model.specs.Texts.{words_of}
 use Rattle.dt_model.specs.Verdicts.{verdict}
 use Rattle.dt_model.specs.Worlds.{updates_in}
 use Rattle.dt_text.specs.Content.{content_lines, is_within_limit}
@@ -14,7 +13,7 @@ use Rattle.tns_io.specs.declared.faults.FileCause.{FileCause}
 use Rattle.tns_io.specs.declared.faults.FileCause.TheVariants as because
 use Rattle.tns_io.specs.declared.faults.FileFault.{FileFault}
 use Rattle.script_read.specs.Readings.{◌>>=◌, check, at_line, each_after}
-use Rattle.script_read.specs.Calls.{written_call, is_built}
+use Rattle.script_read.specs.Calls.{written_call}
 
 -- the verdict on what a line writes: that on its call, or that its form is refused
 abbrev pub verdict_on : Decls → Result WrittenCall Refusal → Verdict
@@ -29,9 +28,8 @@ line_verdict d line = verdict_on d (written_call line)
 abbrev pub verdict_behind : Decls → ℕ → ℕ → List ℕ → Result Verdict FileCause
 verdict_behind d calls left line =
     check (is_within_limit line && nat_lt calls MOST_CALLS) because.Limit >>= (λ _.
-    check (is_built (words_of line)) because.NotBuilt >>= (λ _.
     check (nat_le (updates_in (line_verdict d line)) left) because.Limit >>= (λ _.
-    Ok (line_verdict d line))))
+    Ok (line_verdict d line)))
 
 -- the same of a numbered line behind verdicts, where at most so many updates may be accepted in all
 abbrev pub numbered_verdict : Decls → ℕ → List Verdict → ℕ × List ℕ → Result Verdict FileFault

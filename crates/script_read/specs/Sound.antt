@@ -48,7 +48,7 @@ pub record IsLoad (d : Declared) (name : List ℕ) : Type 0 where
 abbrev pub MayAsk : Declared → Item → Type 0
 MayAsk d (Tensor name dims formats latches) = IsSoundTensor name dims formats.items latches × IsNewTensor d name
 MayAsk d (Load name file) = IsLoad d name
-MayAsk d (Session file) = d.sessions ≡ 0
+MayAsk d (Session file) = Unit {0}
 MayAsk d (Print name) = is_declared d name ≡ true
 MayAsk d (Schema file) = d.sessions ≡ 0
 

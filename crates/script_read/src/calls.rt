@@ -3,151 +3,30 @@ ghost use Rattle.std.specs.Prelude.{◌≡◌, ◌<◌, ◌≤◌, ◌+◌, ◌^
 ghost use Rattle.dt_model.specs.declared.limits.TheConstants.{LINE_LIMIT};
 ghost use Rattle.index_read.specs.Faults.{column_of};
 ghost use Rattle.script_read.specs.Words.{seen_word};
-ghost use Rattle.dt_model.specs.declared.replies.Refusal.TheVariants.{Form};
 ghost use Rattle.script_read.specs.LineFaults.{Gives, IsLineFault};
 ghost use Rattle.script_read.specs.Judging.{CanBeJudged};
-ghost use Rattle.script_read.specs.Parts.{coordinates_and_number};
-ghost use Rattle.script_read.specs.declared.line_faults.LineFault.TheVariants as faults;
-ghost use Rattle.script_read.specs.Calls.{written_name, written_coordinate, written_number, written_coordinates, written_arguments, written_update, written_batch, written_get, written_query, call_of_words};
+ghost use Rattle.script_read.specs.Batches.{without_blank_end, written_batch};
+ghost use Rattle.script_read.specs.Calls.{written_single, written_get, written_query, call_of_words};
 
+use crate::batches::read_updates;
 use crate::line_faults::LineFault;
+use crate::updates::{missing, read_coordinates, read_name, read_update};
 use crate::verbs::Verb;
 use crate::words::Word;
-use dt_model::{
-    List, Name, Refusal, UpdateKind, WrittenCall, WrittenCoordinate, WrittenNumber, WrittenUpdate,
-};
-use dt_text::{IndexFault, NumFault, read_index, read_value};
+use dt_model::{List, Refusal, UpdateKind, WrittenCall};
+use dt_text::end_column;
 use index_read::{StmtFault, read_stmt};
 use std::alloc::Global;
 
-/// A name.
-fn read_name(word: &Word<'_>) -> Result<Name, Refusal>
-    ensures value { result ≡ written_name (seen_word word.now) }
-{
-    match Name::new(word.bytes) {
-        Some(name) => Ok(name),
-        None => Err(Refusal::Form {
-            column: word.column,
-        }),
-    }
-}
-
-/// A coordinate.
-fn read_coordinate(word: &Word<'_>) -> Result<WrittenCoordinate, Refusal>
-    ensures value { result ≡ written_coordinate (seen_word word.now) }
-{
-    match read_index(word.bytes) {
-        Ok(number) => Ok(WrittenCoordinate::Number(number)),
-        Err(IndexFault::Range) => Ok(WrittenCoordinate::Huge),
-        Err(IndexFault::Form) => Err(Refusal::Form {
-            column: word.column,
-        }),
-    }
-}
-
-/// A number that is set or added.
-fn read_number(word: &Word<'_>) -> Result<WrittenNumber, Refusal>
-    ensures value { result ≡ written_number (seen_word word.now) }
-{
-    match read_value(word.bytes) {
-        Ok(value) => Ok(WrittenNumber::Whole(value)),
-        Err(NumFault::NotWhole) => Ok(WrittenNumber::Fraction),
-        Err(NumFault::Range) => Ok(WrittenNumber::Huge),
-        Err(NumFault::Form) => Err(Refusal::Form {
-            column: word.column,
-        }),
-    }
-}
-
-/// `C1 .. Cr`.
-fn read_coordinates(alloc: Global, words: &[Word<'_>]) -> Result<List<WrittenCoordinate>, LineFault>
-    ensures reads { Gives (written_coordinates (map seen_word words.now)) result }
-    ensures count { IfOk result (λ cs. length cs ≤ length words.now) }
-{
-    let mut coordinates = List::new(alloc);
-    for word in words {
-        match read_coordinate(word) {
-            Ok(coordinate) => {
-                if coordinates.push(coordinate).is_err() {
-                    return Err(LineFault::NoMemory);
-                }
-            }
-            Err(refusal) => return Err(LineFault::Refused(refusal)),
-        }
-    }
-    Ok(coordinates)
-}
-
-/// That a word is missing, which would stand at the line's end.
-fn missing(end: u32) -> LineFault
-    ensures value { result ≡ faults.Refused (Form end) }
-{
-    LineFault::Refused(Refusal::Form { column: end })
-}
-
-/// `C1 .. Cr`, then `VALUE`.
-fn read_both(
-    alloc: Global,
-    coordinates: &[Word<'_>],
-    value: &Word<'_>,
-) -> Result<(List<WrittenCoordinate>, WrittenNumber), LineFault>
-    ensures reads { Gives (coordinates_and_number (written_coordinates (map seen_word coordinates.now)) (written_number (seen_word value.now))) result }
-    ensures count { IfOk result (λ p. length p.0 ≤ length coordinates.now) }
-{
-    let coordinates = read_coordinates(alloc, coordinates)?;
-    let number = read_number(value)?;
-    Ok((coordinates, number))
-}
-
-/// `C1 .. Cr VALUE`.
-fn read_arguments(
-    alloc: Global,
-    words: &[Word<'_>],
-    end: u32,
-) -> Result<(List<WrittenCoordinate>, WrittenNumber), LineFault>
-    ensures reads { Gives (written_arguments end (map seen_word words.now)) result }
-    ensures count { IfOk result (λ p. length p.0 ≤ length words.now) }
-{
-    match words {
-        [] => Err(missing(end)),
-        [coordinates @ .., value] => read_both(alloc, coordinates, value),
-    }
-}
-
-/// `NAME C1 .. Cr VALUE`.
-fn read_update(
-    alloc: Global,
-    kind: UpdateKind,
-    words: &[Word<'_>],
-    end: u32,
-) -> Result<WrittenUpdate, LineFault>
-    ensures reads { Gives (written_update kind end (map seen_word words.now)) result }
-    ensures count { IfOk result (λ u. length u.coordinates ≤ length words.now) }
-{
-    match words {
-        [] => Err(missing(end)),
-        [name, arguments @ ..] => {
-            let name = read_name(name)?;
-            let (coordinates, number) = read_arguments(alloc, arguments, end)?;
-            Ok(WrittenUpdate {
-                kind,
-                name,
-                coordinates,
-                number,
-            })
-        }
-    }
-}
-
 /// `NAME C1 .. Cr VALUE`, as a batch of one update.
-fn read_batch(
+fn read_single(
     alloc: Global,
     kind: UpdateKind,
     words: &[Word<'_>],
     end: u32,
 ) -> Result<WrittenCall, LineFault>
     requires few { length words.now < 2 ^ 32 }
-    ensures reads { Gives (written_batch kind end (map seen_word words.now)) result }
+    ensures reads { Gives (written_single kind end (map seen_word words.now)) result }
     ensures judged { IfOk result CanBeJudged }
 {
     let update = read_update(alloc, kind, words, end)?;
@@ -213,8 +92,27 @@ fn read_query(alloc: Global, line: &[u8], before: u32) -> Result<WrittenCall, Li
     }
 }
 
-/// The call that the words of a line write, or the column of the first fault of its form. The
-/// statement of a query begins behind the verb, which has five bytes.
+/// A line without the blanks at its end.
+fn without_blank_end(line: &[u8]) -> &[u8]
+    ensures value { result.now ≡ without_blank_end line.now }
+{
+    &line[..end_column(line) - 1]
+}
+
+/// The batch of the updates that are behind so many bytes of a line.
+fn read_batch(alloc: Global, line: &[u8], before: u32) -> Result<WrittenCall, LineFault>
+    requires short { length line.now ≤ LINE_LIMIT }
+    requires within { before ≤ LINE_LIMIT + 5 }
+    ensures reads { Gives (written_batch before line.now) result }
+    ensures judged { IfOk result CanBeJudged }
+{
+    let text = rest_behind(without_blank_end(line), before as usize);
+    let updates = read_updates(alloc, text, before)?;
+    Ok(WrittenCall::Batch(updates))
+}
+
+/// The call that the words of a line write, or the column of the first fault of its form. Behind the
+/// verbs of a batch and of a query, which have five bytes, a line isn't read by its words.
 pub fn read_call(
     alloc: Global,
     line: &[u8],
@@ -233,9 +131,10 @@ pub fn read_call(
             None => Err(LineFault::Refused(Refusal::Form {
                 column: verb.column,
             })),
-            Some(Verb::Set) => read_batch(alloc, UpdateKind::Set, rest, end),
-            Some(Verb::Add) => read_batch(alloc, UpdateKind::Add, rest, end),
+            Some(Verb::Set) => read_single(alloc, UpdateKind::Set, rest, end),
+            Some(Verb::Add) => read_single(alloc, UpdateKind::Add, rest, end),
             Some(Verb::Get) => read_get(alloc, rest, end),
+            Some(Verb::Batch) => read_batch(alloc, line, verb.column + 4),
             Some(Verb::Query) => read_query(alloc, line, verb.column + 4),
         },
     }

@@ -1,6 +1,6 @@
 //! What the lines of a manifest declare, for the lines that come later.
 ghost use Rattle.std.specs.Prelude.{◌≡◌, ◌+◌, ◌<◌, ◌≤◌, ◌^◌, OnOk, IfOk, length, true};
-ghost use Rattle.script_read.specs.Manifests.{nothing, declared_with, is_declared, is_built, is_in_order, is_known, is_new, is_within_limits, item_in_turn};
+ghost use Rattle.script_read.specs.Manifests.{nothing, declared_with, is_declared, is_in_order, is_known, is_new, is_within_limits, item_in_turn};
 
 use crate::item_lines::ItemLine;
 use crate::items::Item;
@@ -40,16 +40,6 @@ impl Declared {
     {
         let tensors = self.tensors.as_slice();
         tensors.iter().any(|tensor| name.bytes() == tensor.bytes())
-    }
-
-    /// Whether the program has the line's form.
-    fn is_built(&self, line: &ItemLine) -> bool
-        ensures value { result ≡ is_built self.now line.now }
-    {
-        match line {
-            ItemLine::Whole(Item::Session { .. }) => self.sessions == 0,
-            _ => true,
-        }
     }
 
     /// Whether a `schema`, `tensor` or `load` line stands before each session.
@@ -106,9 +96,6 @@ impl Declared {
         ensures value { result ≡ item_in_turn self.now line }
         ensures limits { IfOk result (λ item. is_within_limits (declared_with self.now item) ≡ true) }
     {
-        if !self.is_built(&line) {
-            return Err(FileCause::NotBuilt);
-        }
         if !self.is_in_order(&line) {
             return Err(FileCause::Order);
         }

@@ -10,6 +10,7 @@
 //! (`tns_io`), statements (`index_read`).
 #![tactic(auto)]
 
+mod batches;
 mod calls;
 mod declarations;
 mod file_names;
@@ -21,6 +22,7 @@ mod manifests;
 mod scripts;
 #[cfg(test)]
 mod tests;
+mod updates;
 mod verbs;
 mod words;
 

@@ -37,7 +37,7 @@ fn read_line(
     if !is_within_limit(line) {
         return Err(fault_at(number, FileCause::Limit));
     }
-    let Ok(words) = words_in(alloc, line) else {
+    let Ok(words) = words_in(alloc, line, 0) else {
         return Err(ReadFault::NoMemory);
     };
     let Some(item_line) = read_item(words.as_slice()) else {

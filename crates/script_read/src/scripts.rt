@@ -12,7 +12,6 @@ use crate::calls::read_call;
 use crate::judging::judge;
 use crate::line_faults::LineFault;
 use crate::manifests::fault_at;
-use crate::verbs::is_built;
 use crate::words::{Word, words_in};
 use dt_model::{Call, Decls, MOST_CALLS, NoMemory, Verdict, Verdicts};
 use dt_text::{content_lines, end_column, is_within_limit};
@@ -39,7 +38,7 @@ fn read_verdict(
     requires few { length decls.now.tensors < 2 ^ 32 }
     requires short { length line.now ≤ LINE_LIMIT }
     requires few_words { length words.now ≤ LINE_LIMIT }
-    requires words { map seen_word words.now ≡ columned_words line.now }
+    requires words { map seen_word words.now ≡ columned_words 0 line.now }
     requires within { All (λ w. w.column ≤ LINE_LIMIT + 1) words.now }
     ensures value { IfOk result (λ v. v ≡ line_verdict decls.now line.now) }
 {
@@ -67,12 +66,9 @@ fn read_line(
     if !(is_within_limit(line) && calls < MOST_CALLS as usize) {
         return Err(fault_at(number, FileCause::Limit));
     }
-    let Ok(words) = words_in(alloc, line) else {
+    let Ok(words) = words_in(alloc, line, 0) else {
         return Err(ReadFault::NoMemory);
     };
-    if !is_built(words.as_slice()) {
-        return Err(fault_at(number, FileCause::NotBuilt));
-    }
     let Ok(verdict) = read_verdict(alloc, decls, line, words.as_slice()) else {
         return Err(ReadFault::NoMemory);
     };

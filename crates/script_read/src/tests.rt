@@ -143,7 +143,7 @@ fn each_cause_of_a_manifest_and_which_of_two_comes_first(rt: HostRuntime) {
         (b"session \xff", 1, FileCause::Form),
         (b"schema q r", 1, FileCause::Form),
         (b"schema", 1, FileCause::Form),
-        // form before not built, order, name, twice and range
+        // form before order, name, twice and range
         (b"session s\nsession s t", 2, FileCause::Form),
         (b"session s\nload w", 2, FileCause::Form),
         (b"session s\nschema", 2, FileCause::Form),
@@ -154,12 +154,6 @@ fn each_cause_of_a_manifest_and_which_of_two_comes_first(rt: HostRuntime) {
             FileCause::Form,
         ),
         (b"tensor v 0 as flat latches x", 1, FileCause::Form),
-        // not built
-        (
-            b"tensor v 5 as flat latches 1\nsession s\nsession t",
-            3,
-            FileCause::NotBuilt,
-        ),
         // order, and before name, twice and range
         (b"session s\nschema q", 2, FileCause::Order),
         (
@@ -239,6 +233,15 @@ fn limits_of_a_manifest(rt: HostRuntime) {
         // 64 print lines, and one more
         (four, b"print a\n", 64, None),
         (four, b"print a\n", 65, Some((69, FileCause::Limit))),
+        // 16 sessions, and one more; order before limit
+        (four, b"session s\n", 16, None),
+        (four, b"session s\n", 17, Some((21, FileCause::Limit))),
+        (
+            b"session s\n",
+            b"schema q\n",
+            1,
+            Some((2, FileCause::Order)),
+        ),
         // 4,096 bytes of a line, and one more, which comes before form
         (b"x", b"x", 4095, Some((1, FileCause::Form))),
         (b"x", b"x", 4096, Some((1, FileCause::Limit))),
@@ -431,6 +434,76 @@ fn each_refusal_of_a_line_and_which_of_two_comes_first(rt: HostRuntime) {
 }
 
 #[test]
+fn each_refusal_of_a_batch_and_which_of_two_comes_first(rt: HostRuntime) {
+    for (line, wanted) in [
+        // accepted
+        (&b"batch set v 1 1"[..], Wanted::Accepted),
+        (
+            b"\tbatch set v 1 1;add B 2 3 -5 ;\tset v 00005 1e3 \r\n",
+            Wanted::Accepted,
+        ),
+        // a missing update stands at the semicolon that ends it, or at the line's end
+        (b"batch", Wanted::Form(6)),
+        (b"  batch\t ", Wanted::Form(8)),
+        (b"batch;", Wanted::Form(1)),
+        (b"batch ;set v 1 1", Wanted::Form(7)),
+        (b"batch set v 1 1;", Wanted::Form(17)),
+        (b"batch set v 1 1;  ", Wanted::Form(17)),
+        (b"batch set v 1 1;;set v 2 2", Wanted::Form(17)),
+        (b"batch set v 1 1 ; ; set v 2 2", Wanted::Form(19)),
+        // and so do a missing name and a missing value
+        (b"batch set", Wanted::Form(10)),
+        (b"batch set ; add v 1 1", Wanted::Form(11)),
+        (b"batch set v;add v 1 1", Wanted::Form(12)),
+        (b"batch add v 1 1;set v ", Wanted::Form(22)),
+        // no update; a name, a coordinate, a value
+        (b"batch get v 1", Wanted::Form(7)),
+        (b"batch set v 1 1;query a = v(i)", Wanted::Form(17)),
+        (b"batch set v 1 1; batch set v 1 1", Wanted::Form(18)),
+        (b"batch set v 1 1;set v 1;1", Wanted::Form(25)),
+        (b"batch set v 1 1;set 5v 1 1", Wanted::Form(21)),
+        (b"batch set v 1 1;set v x 1", Wanted::Form(23)),
+        (b"batch set v 1 x;set 5v 1 1", Wanted::Form(15)),
+        // form of a later update before the name of an earlier one
+        (b"batch set w 1 1;set v 1 x", Wanted::Form(25)),
+        // then the updates in order, each with its first reason
+        (b"batch set v 1 1;set w 9 9 9", Wanted::Name),
+        (b"batch set v 1 1;set v 1", Wanted::Rank(0, 1)),
+        (b"batch set v 9 1;set w 1 1", Wanted::Range(1, 5)),
+        (b"batch set v 1 1;add B 2 4 2.5", Wanted::Range(2, 3)),
+        (b"batch set v 1 2.5;set v 9 1", Wanted::NotWhole),
+        (
+            b"batch set v 1 1;add B 2 3 99999999999999999999",
+            Wanted::TooLarge,
+        ),
+    ] {
+        assert!(rt; about_line(&rt, line) == wanted);
+    }
+}
+
+#[test]
+fn a_batch_has_at_most_64_updates(rt: HostRuntime) -> Result<(), Fail> {
+    for (head, count, tail, wanted) in [
+        (&b"batch set v 1 1"[..], 63, &b""[..], Wanted::Accepted),
+        (b"batch set v 1 1", 64, b"", Wanted::Limit(646)),
+        // whatever follows
+        (b"batch set v 1 1", 63, b";", Wanted::Limit(646)),
+        (b"batch set v 1 1", 63, b";x", Wanted::Limit(646)),
+        // a form fault before the limit, also in one column
+        (b"batch set v 1 x", 64, b"", Wanted::Form(15)),
+        (b"batch set v 1 1", 62, b";set;x", Wanted::Form(640)),
+        (b"batch set v 1 1", 62, b";;x", Wanted::Form(637)),
+        // the limit before a name
+        (b"batch set w 1 1", 64, b"", Wanted::Limit(646)),
+    ] {
+        let mut line = with_lines(rt.alloc(), head, b";set v 1 1", count)?;
+        append(&mut line, tail)?;
+        assert!(rt; about_line(&rt, &line) == wanted);
+    }
+    Ok(())
+}
+
+#[test]
 fn each_refusal_of_a_query_and_which_of_two_comes_first(rt: HostRuntime) {
     for (line, wanted) in [
         // accepted; the name on the left may be that of a tensor
@@ -552,6 +625,40 @@ fn calls_have_the_cells_and_values_of_their_lines(rt: HostRuntime) {
     }
 }
 
+#[test]
+fn a_batch_has_the_updates_of_its_line_in_order(rt: HostRuntime) -> Result<(), Fail> {
+    let text = b"batch set v 1 1; add B 2 1 3 ;set v 1 -1";
+    let verdicts = verdicts_of(&rt, text, 3)?;
+    let same = match verdicts.get(0) {
+        Some(Verdict::Accepted(Call::Batch(updates))) => match updates.as_slice() {
+            [
+                Update::Set {
+                    cell: first,
+                    value: one,
+                },
+                Update::Add {
+                    cell: second,
+                    value: three,
+                },
+                Update::Set {
+                    cell: third,
+                    value: less,
+                },
+            ] => {
+                (first.tensor, second.tensor, third.tensor) == (0, 1, 0)
+                    && first.at.as_slice() == [0].as_slice()
+                    && second.at.as_slice() == [1, 0].as_slice()
+                    && third.at.as_slice() == [0].as_slice()
+                    && (*one, *three, *less) == (1, 3, u64::MAX)
+            }
+            _ => false,
+        },
+        _ => false,
+    };
+    assert!(rt; same);
+    Ok(())
+}
+
 /// The fault of a script, if it has one.
 fn script_fault(rt: &HostRuntime, text: &[u8], most: u32) -> Option<(u32, FileCause)> {
     match verdicts_of(rt, text, most) {
@@ -563,20 +670,23 @@ fn script_fault(rt: &HostRuntime, text: &[u8], most: u32) -> Option<(u32, FileCa
 #[test]
 fn faults_of_a_script(rt: HostRuntime) {
     for (text, most, fault) in [
-        (
-            &b"get v 1\n\nbatch set v 1 1"[..],
-            9,
-            Some((3, FileCause::NotBuilt)),
-        ),
         // accepted updates alone are counted
         (
-            b"set v 1 1\nget v 1\nset v 2 1",
+            &b"set v 1 1\nget v 1\nset v 2 1"[..],
             1,
             Some((3, FileCause::Limit)),
         ),
         (b"set v 9 1\nsub v 1\nset v 1 1\nget v 1", 1, None),
         (b"set v 1 1", 0, Some((1, FileCause::Limit))),
         (b"get v 1\nsub v 1", 0, None),
+        // each update of a batch is, if the batch is accepted
+        (b"batch set v 1 1;set v 2 1", 2, None),
+        (
+            b"get v 1\nbatch set v 1 1;set v 2 1",
+            1,
+            Some((2, FileCause::Limit)),
+        ),
+        (b"batch set v 1 1;set v 9 1\nset v 1 1", 1, None),
         // a fault before a later one
         (b"set v 1 1\nbatch", 0, Some((1, FileCause::Limit))),
     ] {
@@ -584,13 +694,8 @@ fn faults_of_a_script(rt: HostRuntime) {
     }
     let alloc = rt.alloc();
     for (head, line, count, fault) in [
-        // 4,096 bytes of a line, and one more, which comes before not built
-        (
-            &b"batch"[..],
-            &b" "[..],
-            4091,
-            Some((1, FileCause::NotBuilt)),
-        ),
+        // 4,096 bytes of a line, and one more, which comes before form
+        (&b"batch"[..], &b" "[..], 4091, None),
         (b"batch", b" ", 4092, Some((1, FileCause::Limit))),
         (b"query a=v(i)", b" ", 4084, None),
         (b"query a=v(i)", b" ", 4085, Some((1, FileCause::Limit))),

@@ -1,9 +1,8 @@
 //! The verbs of a script's lines.
-ghost use Rattle.std.specs.Prelude.{◌≡◌, map};
-ghost use Rattle.script_read.specs.Words.{word_bytes};
-ghost use Rattle.script_read.specs.Calls.{verb_of, is_built};
+ghost use Rattle.std.specs.Prelude.{◌≡◌};
+ghost use Rattle.script_read.specs.Verbs.{verb_of};
 
-use crate::words::{Word, equals_text};
+use crate::words::equals_text;
 
 /// The first word of a line.
 #[derive(Clone, Copy, Debug, PartialEq, Eq)]
@@ -14,6 +13,8 @@ pub enum Verb {
     Add,
     /// `get NAME C1 .. Cr`.
     Get,
+    /// `batch U ; U ; ..`, where each U is a line `set ..` or `add ..`.
+    Batch,
     /// `query STATEMENT`.
     Query,
 }
@@ -29,20 +30,12 @@ impl Verb {
             Some(Verb::Add)
         } else if equals_text(word, "get") {
             Some(Verb::Get)
+        } else if equals_text(word, "batch") {
+            Some(Verb::Batch)
         } else if equals_text(word, "query") {
             Some(Verb::Query)
         } else {
             None
         }
-    }
-}
-
-/// Whether the program has the form of a line of these words.
-pub fn is_built(words: &[Word<'_>]) -> bool
-    ensures value { result ≡ is_built (map word_bytes words.now) }
-{
-    match words {
-        [] => true,
-        [verb, ..] => !equals_text(verb.bytes, "batch"),
     }
 }

@@ -24,20 +24,21 @@ pub fn equals_text(word: &[u8], text: &str) -> bool
     word == text.as_bytes()
 }
 
-/// The words of a line in order.
-pub fn words_in<'a>(alloc: Global, line: &'a [u8]) -> Result<Vec<Word<'a>>, NoMemory>
-    requires short { length line.now + 1 < 2 ^ 32 }
-    ensures columned { IfOk result (λ ws. map seen_word ws.items ≡ columned_words line.now) }
-    ensures words { IfOk result (λ ws. map word_bytes ws.items ≡ words_of line.now) }
-    ensures count { IfOk result (λ ws. length ws.items ≤ length line.now) }
-    ensures within { IfOk result (λ ws. All (λ w. w.column ≤ length line.now + 1) ws.items) }
+/// The words of a text in order, with their columns in the line, of which so many bytes are before the
+/// text.
+pub fn words_in<'a>(alloc: Global, text: &'a [u8], before: u32) -> Result<Vec<Word<'a>>, NoMemory>
+    requires short { before + length text.now + 1 < 2 ^ 32 }
+    ensures columned { IfOk result (λ ws. map seen_word ws.items ≡ columned_words before text.now) }
+    ensures words { IfOk result (λ ws. map word_bytes ws.items ≡ words_of text.now) }
+    ensures count { IfOk result (λ ws. length ws.items ≤ length text.now) }
+    ensures within { IfOk result (λ ws. All (λ w. w.column ≤ before + length text.now + 1) ws.items) }
 {
     let mut found = Vec::new(alloc);
-    let mut spans = words(line);
+    let mut spans = words(text);
     while let Some(span) = spans.next() {
         let word = Word {
-            column: span.from as u32 + 1,
-            bytes: &line[span.from..span.to],
+            column: before + span.from as u32 + 1,
+            bytes: &text[span.from..span.to],
         };
         found.push(word)?;
     }

@@ -1,23 +1,17 @@
 -- Contents that are 0 outside the dimensions of their tensors, and valid lines and calls that keep them so.
 use Rattle.std.proofs.Common.{◌≡◌, ℕ, ◌+◌, ◌%◌, ◌^◌, Bool, true, false, List, [], ◌∷◌, refl, subst}
-use Rattle.std.specs.Prelude.{◌&&◌, nat_le, nat_lt, if◌then◌else◌, fold, length}
+use Rattle.std.specs.Prelude.{if◌then◌else◌, fold}
 use Rattle.std.specs.List.{list_all, enumerate_from}
-use Rattle.dt_model.specs.declared.calls.Call.{Call}
-use Rattle.dt_model.specs.declared.calls.Call.TheVariants.{Get, Batch, Query}
-use Rattle.dt_model.specs.declared.calls.Cell.{Cell}
-use Rattle.dt_model.specs.declared.calls.Update.{Update}
-use Rattle.dt_model.specs.declared.calls.Update.TheVariants.{Set, Add}
 use Rattle.dt_model.specs.declared.declared_tensors.Decls.{Decls}
-use Rattle.dt_model.specs.declared.limits.TheConstants.{MOST_UPDATES}
 use Rattle.dt_model.specs.declared.replies.World.{World}
-use Rattle.dt_model.specs.Contents.{Contents, no_cells, same_cell, with_cell, with_more, with_update, with_updates}
-use Rattle.dt_model.specs.Runs.{with_lines, base_of, after_call}
+use Rattle.dt_model.specs.Contents.{Contents, no_cells, same_cell, with_cell, with_more}
+use Rattle.dt_model.specs.Runs.{with_lines, base_of}
 use Rattle.dt_model.specs.Tensors.{dims_of}
-use Rattle.dt_model.specs.Verdicts.{all_in_range, cell_is_valid, update_cell, call_is_valid}
+use Rattle.dt_model.specs.Verdicts.{all_in_range}
 use Rattle.dt_model.specs.Worlds.{IsValid, loads_are_valid}
 use Rattle.dt_model.proofs.Booleans.{both_true}
 use Rattle.commit_core.proofs.MachineLemmas.{same_cell-is}
-use Rattle.sessions.specs.RunState.{IsInRange}
+use Rattle.sessions.specs.InRange.{IsInRange}
 
 IsInRange-with_cell : (d : Decls) (m : Contents) (t : ℕ) (a : List ℕ) (v : ℕ) → all_in_range (dims_of d t) a ≡ true → IsInRange d m
     → IsInRange d (with_cell m t a v)
@@ -30,29 +24,6 @@ IsInRange-with_cell d m t a v within h u c out = go (same_cell t a u c) refl
         ≡ true) (λ i. (same.0 i, same.1 i)) within in
         absurd (cc (inside, out))
     go false e = h u c out
-
-cell_in_range : (d : Decls) (cell : Cell) → cell_is_valid d cell ≡ true → all_in_range (dims_of d cell.tensor) cell.at ≡ true
-cell_in_range d cell h = (both_true (nat_lt cell.tensor (length d.tensors)) (all_in_range (dims_of d cell.tensor) cell.at) h).1
-
-IsInRange-with_update : (d : Decls) (m : Contents) (u : Update) → cell_is_valid d (update_cell u) ≡ true → IsInRange d m → IsInRange d (with_update m u)
-IsInRange-with_update d m (Set cell v) valid h = IsInRange-with_cell d m cell.tensor cell.at v (cell_in_range d cell valid) h
-IsInRange-with_update d m (Add cell v) valid h = IsInRange-with_cell d m cell.tensor cell.at ((m cell.tensor cell.at
-    + v) % 2 ^ 64) (cell_in_range d cell valid) h
-
-IsInRange-with_updates : (d : Decls) (m : Contents) (us : List Update) → list_all (λ u. cell_is_valid d (update_cell u)) us ≡ true → IsInRange d m
-    → IsInRange d (with_updates m us)
-IsInRange-with_updates d m [] valid h = h
-IsInRange-with_updates d m (u ∷ us) valid h =
-    let both = both_true (cell_is_valid d (update_cell u)) (list_all (λ x. cell_is_valid d (update_cell x)) us) valid in
-    IsInRange-with_updates d (with_update m u) us both.1 (IsInRange-with_update d m u both.0 h)
-
--- a valid call keeps contents so
-pub IsInRange-after_call : (d : Decls) (m : Contents) (call : Call) → call_is_valid d call ≡ true → IsInRange d m → IsInRange d (after_call m call)
-IsInRange-after_call d m (Get cell) valid h = h
-IsInRange-after_call d m (Batch us) valid h =
-    IsInRange-with_updates d m us (both_true (nat_le 1 (length us)
-    && nat_le (length us) MOST_UPDATES) (list_all (λ u. cell_is_valid d (update_cell u)) us) valid).1 h
-IsInRange-after_call d m (Query stmt) valid h = h
 
 IsInRange-with_lines : (d : Decls) (m : Contents) (t : ℕ) (lines : List (List ℕ × ℕ)) → list_all (λ line. all_in_range (dims_of d t) line.0) lines ≡ true
     → IsInRange d m → IsInRange d (with_lines m t lines)

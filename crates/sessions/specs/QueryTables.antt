@@ -4,17 +4,12 @@ use Rattle.dt_model.specs.declared.declared_tensors.Decls.{Decls}
 use Rattle.dt_model.specs.Contents.{Contents}
 use Rattle.dt_model.specs.Statements.{all_below, nonzeros}
 use Rattle.dt_model.specs.Tensors.{tensor_named, dims_of}
-use Rattle.slow_eval.specs.Contents.{rows_for}
 use Rattle.slow_eval.specs.Given.{has_entry}
-use Rattle.sessions.specs.RunState.{IsInRange}
+use Rattle.sessions.specs.InRange.{IsInRange}
 
 -- these are the nonzeros of a tensor, whatever its dimensions, if nothing lies outside them
 abbrev pub AreNonzerosOf : Contents → ℕ → List (List ℕ × ℕ) → Type 0
 AreNonzerosOf m t pairs = (d : Decls) → IsInRange d m → pairs ≡ nonzeros (m t) (all_below (dims_of d t))
-
--- each tensor that has a table has its nonzeros there
-abbrev pub AreTables : Contents → List (ℕ × List (List ℕ × ℕ)) → Type 0
-AreTables m tables = (t : ℕ) → has_entry tables t ≡ true → AreNonzerosOf m t (rows_for tables (Some t))
 
 -- the tensor with this name has a table, if there is one
 abbrev pub HasTable : Decls → List (ℕ × List (List ℕ × ℕ)) → List ℕ → Type 0

@@ -6,9 +6,9 @@ use Rattle.script_read.proofs.words.words_in.Given as goal
 
 abbrev pub invariant-loop-span : goal.invariant-loop-span
 invariant-loop-span l = record {
-  left : map seen_word l.found.items ++ map (word_at l.line) l.spans ≡ columned_words l.line;
-  inside : All (IsSpanOf l.line) l.spans;
-  within : All (λ w. w.column ≤ length l.line + 1) l.found.items;
+  left : map seen_word l.found.items ++ map (word_at l.before l.text) l.spans ≡ columned_words l.before l.text;
+  inside : All (IsSpanOf l.text) l.spans;
+  within : All (λ w. w.column ≤ l.before + length l.text + 1) l.found.items;
 }
 
 abbrev pub decreases-loop-span : goal.decreases-loop-span
