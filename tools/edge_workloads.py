@@ -4,7 +4,8 @@
 Makes a workload at each limit of docs/FORMATS.md and one past it, one for each cause of a refusal beside a later cause on
 the same line, one for each statement of tools/edge_statements.py, and some odd files. It runs PROGRAM on each
 (crates/dyntensor/out/dyntensor if left out), compares status and output with what tools/replay.py says, and prints a line for
-each workload. It ends with status 1 if one differs. It is no part of the gate.
+each workload. A report of several sessions in another order is judged by tools/check_report.py. It ends with status 1 if one
+differs. It is no part of the gate.
 
 These words may stand in front: `--built FORM,..` takes these forms of the replayer's NOT_BUILT as built, and `--only WORD`
 leaves out the workloads whose names don't begin with WORD.
@@ -17,6 +18,7 @@ from pathlib import Path
 
 import replay
 from edge_statements import ANSWERED, ANSWERED_LARGE, LARGE, REFUSED, SESSIONS, TENSORS, files_of, refused
+from random_workloads import difference
 
 TOP = Path(__file__).resolve().parent.parent
 SECONDS = 120
@@ -29,6 +31,11 @@ WORDS = b"3. 3.000 2.50e1 1000e-3 -0 0e-999 2.5 1e-1 18446744073709551616 184467
 WORDS += [b"-9223372036854775809", b"1" + b"0" * 3000 + b"e-999"]
 CALLS = [b"get", b"get v", b"get 1", b"get v -1", b"get v 1 x", b"get v 9 x", b"set", b"set v", b"set v 1", b"set v x 1", b"set v 9 2.5"]
 CALLS += [b"set v 1 2 3", b"set w x", b"set w 1 x", b"put v", b"batch;", b"querya", b" \tget  v   6\t", b"get v 4294967296"]
+CALLS += [b"batch", b" batch \t", b"batch ;set v 1 1", b"batch set v 1 1;", b"batch set v 1 1; ", b"batch set v 1 1;;x", b"batch set;x", b"batch set v;x"]
+CALLS += [b"batch set v 1 1 ;add v 5 -1;\tset A 2 3 1e3 ", b"batch get v 1", b"batch set v 1 1;batch", b"batch set v 1;1", b"batch set v 9 1;set v 1 x"]
+CALLS += [b"batch set v 9 2.5;set w 1 1", b"batch set v 1 2.5;set w 1 1", b"batch set v 1 1;set w 1 1", b"batch set v 1 1;add A 2 4 2.5"]
+# 64 updates, one more, and what is wrong before or at the 64th semicolon or behind it.
+CALLS += [b"batch add v 1 1" + b";add v 1 1" * count + last for count in (62, 63, 64) for last in (b"", b";", b";x", b";set;x", b";;x", b";set v 1 1;x")]
 CALLS += [b"get v " + b"0" * 4000 + b"5", b"get A 3 4", b"get A 2 4", b"get A 2", b"get A 2 3 1", b"SET v 1 1", b"get V 1"]
 
 
@@ -72,7 +79,8 @@ def manifests():
     yield "form, then order", b"session s\ntensor v 5 as flat\n"
     yield "form, then name", b"load w t 1\n"
     yield "a schema behind a session", V + b"session s\nschema q\n"
-    yield "second session", V + b"session s\nsession s\n"
+    for count in (2, 16, 17):
+        yield f"{count} sessions", V + b"session s\n" * count
     yield "order, then name", b"session s\nload w t\n"
     yield "order, then twice", V + b"session s\n" + V
     yield "order, then range", b"session s\n" + tensor(dims=b"0")
@@ -171,6 +179,10 @@ def workloads():
         lines = b"1 1\n" * 699_998
         script = b"get v 1\nset v 9 1\nquery a = v(i)\nquery a = v(j)\nquery a\n" + b"add v 1 1\n" * updates
         yield f"699998 lines, {updates} updates and queries", {"m": V + b"load v t\nsession s\nprint v\n", "t": lines, "s": script}
+        batch = b"batch set v 1 1;set v 9 1\nbatch set v 1 1; set v 2 2" + b";add v 1 1" * (updates - 2)
+        yield f"699998 lines, a batch of {updates} updates", {"m": V + b"load v t\nsession s\nprint v\n", "t": lines, "s": batch}
+        files = {"t": lines, "s": b"add v 1 1\nget v 9", "u": b"add v 1 1\n" * (updates - 1)}
+        yield f"699998 lines, {updates} updates of two sessions", {"m": V + b"load v t\nsession s\nsession u\nprint v\n", **files}
 
 
 def ran(program, folder):
@@ -193,11 +205,13 @@ def main(words):
             for file, text in files.items():
                 (Path(room) / file).write_bytes(text)
             found, wanted = ran(program, room), replay.run([b"run", b"m"], room, not_built)
+            why = None if found == wanted else difference(found, wanted, [b"run", b"m"], Path(room), not_built)
         count += 1
         shown = " / ".join(wanted[1][:SHOWN].decode(errors="replace").splitlines())
-        print(f"{'same' if found == wanted else 'DIFFERS'}: {name[:SHOWN]}: status {wanted[0]}, {shown}")
-        if found != wanted:
+        print(f"{'DIFFERS' if why else 'same' if found == wanted else 'true'}: {name[:SHOWN]}: status {wanted[0]}, {shown}")
+        if why:
             differ += 1
+            print(f"    {why}")
             print(f"    the program: status {found[0]}, {' / '.join(found[1][:SHOWN].decode(errors='replace').splitlines())}")
     print(f"{count} workloads, {differ} differ")
     return 1 if differ else 0

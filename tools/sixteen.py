@@ -5,7 +5,8 @@ Makes one workload from the seed (1 if left out): 16 sessions of 2,000 lines eac
 among them batches of 64 updates over many fibers, small batches, queries and lines that are refused. It runs PROGRAM on it
 (crates/dyntensor/out/dyntensor if left out) as often as --runs says, 5 times if left out. tools/check_report.py judges each
 report by its own history, and no call may have found no memory. A line is printed for each run, and at the end the number of
-different histories. It ends with status 1 if a report is wrong. It is no part of the gate.
+different histories. It ends with status 1 if a report is wrong, if no run changed the session more often than sessions that run
+one after the other do, or if several runs all have one history. It is no part of the gate.
 """
 
 import argparse
@@ -84,7 +85,7 @@ def main():
         ask.add_argument(f"--{name}", type=int, default=default)
     ask.add_argument("program", nargs="?", default=str(TOP / "crates/dyntensor/out/dyntensor"))
     how = ask.parse_args()
-    histories, wrong = set(), 0
+    histories, wrong, most = set(), 0, 0
     with tempfile.TemporaryDirectory() as room:
         for name, text in workload(how.seed, how.sessions, how.calls).items():
             (Path(room) / name).write_text(text)
@@ -94,10 +95,15 @@ def main():
             changes = sum(it[0] != other[0] for it, other in zip(turns, turns[1:]))
             print(f"run {number}: {why or 'true'}; {len(turns)} turns, {changes} changes of session, history {history}, {seconds:.2f} s", flush=True)
             wrong += why is not None
+            most = max(most, changes)
             if why is None:
                 histories.add(history)
     print(f"seed {how.seed}, {how.sessions} sessions of {how.calls} lines, {how.runs} runs: {wrong} wrong, {len(histories)} different histories")
-    return 1 if wrong else 0
+    never_at_once = how.sessions > 1 and most < how.sessions
+    always_the_same = how.runs > 1 and how.sessions > 1 and len(histories) < 2
+    if never_at_once or always_the_same:
+        print("the sessions ran one after the other" if never_at_once else "all runs have one history")
+    return 1 if wrong or never_at_once or always_the_same else 0
 
 
 if __name__ == "__main__":
