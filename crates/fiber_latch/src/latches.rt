@@ -19,6 +19,8 @@ use dt_model::{Entry, Journal, Keep, NoMemory, World};
 use std::alloc::Global;
 use std::marker::Model;
 use std::sync::Wait;
+use std::sync::atomic::AtomicU64;
+use std::sync::atomic::Ordering::SeqCst;
 use std::thread;
 
 /// How often a take that finds its latch held tries again before it parks. Each time it lets another thread run first,
@@ -30,6 +32,8 @@ const TRIES_BEFORE_PARK: u32 = 32;
 pub struct Latches<C: Keep> {
     table: Table<Option<SlotValue<C>>, View, TableKey, LatchRule<C>, Global>,
     end: u32,
+    /// How many takes may be parked, at any latch.
+    parkers: AtomicU64,
     /// The vector that the stores came in, kept for its room.
     room: Vec<C>,
 }
@@ -118,7 +122,12 @@ impl<C: Keep> Latches<C> {
     {
         let end = stores.len() as u32;
         let (table, token, room) = opening::opened(alloc, world, stores, end, sessions, calls)?;
-        let latches = Latches { table, end, room };
+        let latches = Latches {
+            table,
+            end,
+            parkers: AtomicU64::new(0),
+            room,
+        };
         let seat = Seat {
             token,
             first: 1,
@@ -150,6 +159,20 @@ impl<C: Keep> Latches<C> {
         )
     }
 
+    /// Counts a take as one that may park, once it has tried often enough.
+    fn count_parker(&self, tries: u32) {
+        if tries == TRIES_BEFORE_PARK {
+            self.parkers.fetch_add(1, SeqCst);
+        }
+    }
+
+    /// No longer counts a take that has its latch, if it was counted.
+    fn uncount_parker(&self, tries: u32) {
+        if tries >= TRIES_BEFORE_PARK {
+            self.parkers.fetch_sub(1, SeqCst);
+        }
+    }
+
     /// Waits for a latch that was found held by this session, before it is tried again: the first few times it only lets
     /// another thread run.
     fn wait<R: Wait>(&self, rt: &R, latch: u32, holder: u32, tries: u32)
@@ -168,8 +191,10 @@ impl<C: Keep> Latches<C> {
     /// A take that finds the latch held tries `TRIES_BEFORE_PARK` times more, and lets another thread run before each.
     /// Most holders give a latch back within a microsecond, and a park with its wake takes about eight. Some keep it
     /// over a whole call, so then it parks on the latch's word. It tells `park` the holder that its try found: the
-    /// thread sleeps only while the word is still that holder. A give changes the word before it wakes, so no wake is
-    /// lost between the try and the park. A take that was woken tries again, and else parks at once.
+    /// thread sleeps only while the word is still that holder. A take that was woken tries again, and else parks at once.
+    ///
+    /// It is counted as one that may park before the try that comes before its first park, and until it has the latch.
+    /// `give` says why no wake is lost.
     pub fn take<R: Wait>(&self, rt: &R, seat: &mut Seat<C>, session: u32, latch: u32) -> Kept<C>
         requires table { BelongsTo seat.old self.now }
         requires session { (seat.old.first ≤ session) × (session ≤ seat.old.last) }
@@ -178,8 +203,12 @@ impl<C: Keep> Latches<C> {
     {
         let mut tries: u32 = 0;
         for _ in rt.forever() {
+            self.count_parker(tries);
             match self.try_take(seat, session, latch) {
-                Ok(kept) => return kept,
+                Ok(kept) => {
+                    self.uncount_parker(tries);
+                    return kept;
+                }
                 Err(busy) => self.wait(rt, latch, busy.holder, tries),
             }
             tries = tries.saturating_add(1);
@@ -206,7 +235,24 @@ impl<C: Keep> Latches<C> {
         seat.numbers[session as usize - 1] = number;
     }
 
+    /// Wakes one take that is parked at this latch, if a take at any latch may be parked: a wake costs a system call.
+    fn wake(&self, latch: u32)
+        requires latch { latch ≤ self.now.config.end }
+    {
+        if self.parkers.load(SeqCst) != 0 {
+            self.table.shared.wake_one(latch as usize);
+        }
+    }
+
     /// Gives back the greatest latch that the seat holds, with its value, and wakes one who waits for it.
+    ///
+    /// It frees the latch's word first, and then looks whether any take may be parked. A take counts itself first, and
+    /// then tries the word. All four steps are sequentially consistent, so all threads see them in one order. If the look
+    /// comes before the count, the try comes after the word was freed: it takes the latch, or finds a later holder, whose
+    /// give is still to come. If the look comes after the count, there is a wake. A take that isn't asleep by then doesn't
+    /// go to sleep, since `park` finds the word changed, unless a later holder has the latch. A take that is woken has
+    /// the latch next, or finds a later holder, and so another give comes for those who still sleep. No clause speaks of
+    /// this: that a take ends is tested (`parked_threads_get_their_turn`), and not proved.
     pub fn give(&self, seat: &mut Seat<C>, latch: u32, kept: Kept<C>)
         requires table { BelongsTo seat.old self.now }
         requires latch { IsTop latch seat.old.held }
@@ -214,7 +260,7 @@ impl<C: Keep> Latches<C> {
         ensures seat { seat.new ≡ without_top seat.old }
     {
         raw::give(&self.table.shared, &mut seat.token, latch as usize, kept);
-        self.table.shared.wake_one(latch as usize);
+        self.wake(latch);
     }
 }
 
@@ -277,7 +323,12 @@ impl<C: Keep> Latches<C> {
         ensures legal { IsLegal self.config.world.decls self.config.sessions self.config.calls seat.seen }
         ensures stores { AreStores C.content C.sound self.config seat.seen result.stores.items }
     {
-        let Latches { table, end, room } = self;
+        let Latches {
+            table,
+            end,
+            parkers: _,
+            room,
+        } = self;
         let Seat {
             token,
             first: _,

@@ -15,7 +15,9 @@ use std::alloc::{AllocError, Global};
 use std::process::Abort;
 use std::sync::Wait;
 use std::test::Fail;
+use std::thread;
 use std::thread::{Threads, join};
+use std::time::{Clock, Duration};
 
 /// The cells of one latch, an ascending list of coordinates with their numbers.
 #[derive(Drop)]
@@ -200,14 +202,23 @@ fn add_one(alloc: Global, at: u32) -> Call
     Call::Batch(updates)
 }
 
-/// One call of the seat's session: it takes the fiber and the journal, adds 1, commits, and gives both back.
-fn round<R: Abort + Wait>(
+/// Sleeps for so many microseconds, if any.
+fn sleep_for<R: Clock>(rt: &R, micros: u32) {
+    if micros > 0 {
+        thread::sleep(rt, Duration::from_micros(micros as u64));
+    }
+}
+
+/// One call of the seat's session: it takes the fiber and the journal, adds 1, commits, keeps both for `hold` microseconds more,
+/// and gives them back.
+fn round<R: Abort + Clock + Wait>(
     rt: &R,
     alloc: Global,
     latches: &Latches<Small>,
     seat: &mut Seat<Small>,
     number: u32,
     at: u32,
+    hold: u32,
 )
     requires seat { (last : ℕ) × IsResting latches.now last seat.old × (last < number) }
     requires number { number ≤ latches.now.config.calls }
@@ -218,17 +229,19 @@ fn round<R: Abort + Wait>(
     let one = latches.take(rt, seat, session, at / 2);
     let two = latches.take(rt, seat, session, 64);
     let (one, two) = applied(rt, alloc, latches, seat, number, at, one, two);
+    sleep_for(rt, hold);
     latches.give(seat, 64, two);
     latches.give(seat, at / 2, one);
 }
 
 /// The calls of one session, each at a coordinate of its own choice.
-fn rounds<R: Abort + Wait>(
+fn rounds<R: Abort + Clock + Wait>(
     rt: &R,
     alloc: Global,
     latches: &Latches<Small>,
     mut seat: Seat<Small>,
     count: u32,
+    hold: u32,
 ) -> Seat<Small>
     requires seat { (s : ℕ) × IsUnused latches.now s s seat }
     requires count { (count ≤ latches.now.config.calls) × (count ≤ 65536) }
@@ -237,18 +250,19 @@ fn rounds<R: Abort + Wait>(
     let session = seat.first();
     for number in 1..=count {
         let at = (number * 7 + session * 16) % 128;
-        round(rt, alloc, latches, &mut seat, number, at);
+        round(rt, alloc, latches, &mut seat, number, at, hold);
     }
     seat
 }
 
 /// Two sessions, each on a thread of its own.
-fn two<R: Abort + Threads + Wait + Sync>(
+fn two<R: Abort + Clock + Threads + Wait + Sync>(
     rt: &R,
     alloc: Global,
     latches: &Latches<Small>,
     mut seat: Seat<Small>,
     count: u32,
+    hold: u32,
 ) -> Seat<Small>
     requires seat { (f : ℕ) × IsUnused latches.now f (f + 1) seat × (f ≤ 15) }
     requires count { (count ≤ latches.now.config.calls) × (count ≤ 65536) }
@@ -261,23 +275,24 @@ fn two<R: Abort + Threads + Wait + Sync>(
         move || -> Seat<Small>
             requires { ((s : ℕ) × IsUnused latches.now s s seat) × (count ≤ latches.now.config.calls) × (count ≤ 65536) }
             ensures { IsDone latches.entry.now seat.first seat.last result }
-        { rounds(rt, alloc, latches, seat, count) },
+        { rounds(rt, alloc, latches, seat, count, hold) },
         move || -> Seat<Small>
             requires { ((s : ℕ) × IsUnused latches.now s s other) × (count ≤ latches.now.config.calls) × (count ≤ 65536) }
             ensures { IsDone latches.entry.now other.first other.last result }
-        { rounds(rt, alloc, latches, other, count) },
+        { rounds(rt, alloc, latches, other, count, hold) },
     );
     latches.join(&mut seat, other);
     seat
 }
 
 /// Four sessions, each on a thread of its own.
-fn four<R: Abort + Threads + Wait + Sync>(
+fn four<R: Abort + Clock + Threads + Wait + Sync>(
     rt: &R,
     alloc: Global,
     latches: &Latches<Small>,
     mut seat: Seat<Small>,
     count: u32,
+    hold: u32,
 ) -> Seat<Small>
     requires seat { (f : ℕ) × IsUnused latches.now f (f + 3) seat × (f ≤ 13) }
     requires count { (count ≤ latches.now.config.calls) × (count ≤ 65536) }
@@ -290,23 +305,24 @@ fn four<R: Abort + Threads + Wait + Sync>(
         move || -> Seat<Small>
             requires { ((f : ℕ) × IsUnused latches.now f (f + 1) seat × (f ≤ 15)) × (count ≤ latches.now.config.calls) × (count ≤ 65536) }
             ensures { IsDone latches.entry.now seat.first seat.last result }
-        { two(rt, alloc, latches, seat, count) },
+        { two(rt, alloc, latches, seat, count, hold) },
         move || -> Seat<Small>
             requires { ((f : ℕ) × IsUnused latches.now f (f + 1) other × (f ≤ 15)) × (count ≤ latches.now.config.calls) × (count ≤ 65536) }
             ensures { IsDone latches.entry.now other.first other.last result }
-        { two(rt, alloc, latches, other, count) },
+        { two(rt, alloc, latches, other, count, hold) },
     );
     latches.join(&mut seat, other);
     seat
 }
 
 /// Eight sessions, each on a thread of its own.
-fn eight<R: Abort + Threads + Wait + Sync>(
+fn eight<R: Abort + Clock + Threads + Wait + Sync>(
     rt: &R,
     alloc: Global,
     latches: &Latches<Small>,
     mut seat: Seat<Small>,
     count: u32,
+    hold: u32,
 ) -> Seat<Small>
     requires seat { (f : ℕ) × IsUnused latches.now f (f + 7) seat × (f ≤ 9) }
     requires count { (count ≤ latches.now.config.calls) × (count ≤ 65536) }
@@ -319,11 +335,11 @@ fn eight<R: Abort + Threads + Wait + Sync>(
         move || -> Seat<Small>
             requires { ((f : ℕ) × IsUnused latches.now f (f + 3) seat × (f ≤ 13)) × (count ≤ latches.now.config.calls) × (count ≤ 65536) }
             ensures { IsDone latches.entry.now seat.first seat.last result }
-        { four(rt, alloc, latches, seat, count) },
+        { four(rt, alloc, latches, seat, count, hold) },
         move || -> Seat<Small>
             requires { ((f : ℕ) × IsUnused latches.now f (f + 3) other × (f ≤ 13)) × (count ≤ latches.now.config.calls) × (count ≤ 65536) }
             ensures { IsDone latches.entry.now other.first other.last result }
-        { four(rt, alloc, latches, other, count) },
+        { four(rt, alloc, latches, other, count, hold) },
     );
     latches.join(&mut seat, other);
     seat
@@ -400,9 +416,19 @@ fn the_second_seat_finds_the_holder(rt: HostRuntime) -> Result<(), Fail> {
 #[test]
 fn eight_threads_make_one_history(rt: HostRuntime) -> Result<(), Fail> {
     let (latches, seat) = table(rt.alloc(), 128, 64, 8, 2000)?;
-    let seat = eight(&rt, rt.alloc(), &latches, seat, 2000);
+    let seat = eight(&rt, rt.alloc(), &latches, seat, 2000, 0);
     let closed = latches.close(seat);
     agrees(&rt, &closed, 2000);
+    Ok(())
+}
+
+/// Each hold of a millisecond is far longer than a take tries before it parks, so most takes of the journal park.
+#[test]
+fn parked_threads_get_their_turn(rt: HostRuntime) -> Result<(), Fail> {
+    let (latches, seat) = table(rt.alloc(), 128, 64, 8, 20)?;
+    let seat = eight(&rt, rt.alloc(), &latches, seat, 20, 1000);
+    let closed = latches.close(seat);
+    agrees(&rt, &closed, 20);
     Ok(())
 }
 
