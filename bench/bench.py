@@ -49,9 +49,15 @@ def run_once(command, folder):
     return child.returncode, seconds, used.ru_maxrss
 
 
+def words_for(folder):
+    """The words of a run: those of the workload's file of words, if it has one."""
+    words = folder / "words"
+    return words.read_text().splitlines() if words.exists() else ["run", "m"]
+
+
 def timed_run(program, folder):
     """The seconds and the peak memory of one run, which has to print the report."""
-    status, seconds, peak = run_once([program, "run", "m"], folder)
+    status, seconds, peak = run_once([program, *words_for(folder)], folder)
     if status == 2 and (folder / "printed").read_bytes().endswith(b" not built\n"):
         raise NotBuilt
     if status != 0 or not is_right(folder):
@@ -110,7 +116,7 @@ def measured(programs, folders):
             seconds, peak = timed_run(program, folder)
             check_history(program, folder)
             counts[which, folder] = max(1, min(MOST_IN_A_ROW, round(ROW_SECONDS / seconds)))
-            peaks[which, folder] = peak_of([program, "run", "m"], folder) or peak
+            peaks[which, folder] = peak_of([program, *words_for(folder)], folder) or peak
     turns = {it: [] for it in counts}
     for _ in range(TURNS):
         for folder in folders:

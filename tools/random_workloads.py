@@ -39,6 +39,8 @@ VALUES = [
     *(b"9223372036854775807 9223372036854775808 2.5 2. 3.000 2.50e1 1000e-3 0e-999 0.000e5 1e3 1e19 1e20 12e-1 1E+2").split(),
     *(b"1e-1 .5 5.e0 nan 1e 1e1000 1e+ 1e-1000 ++1 -+1 1.2.3 0x1 1_0 - + 1e18 184467440737095516150e-1 0.5e1 25e-2").split(),
 ]
+OTHER_WORDS = [[], [b"run"], [b"run", b"x" * 256], [b"go", b"m"], [b"run", b"m", b"m"], [b"run", b"gone"]]
+SAMPLES = [[b"sample", number] for number in (b"0", b"200001", b"+4", b"04", b"0" * 255 + b"4", b"4\xff")]
 VERBS = [b"set", b"set", b"add", b"add", b"get", b"get", b"query", b"batch"]
 
 
@@ -89,7 +91,7 @@ class Maker:
         return [b"session " + name for name in names]
 
     def words(self):
-        return self.chance.choice([[], [b"run"], [b"run", b"x" * 256], [b"go", b"m"], [b"run", b"m", b"m"], [b"run", b"gone"]]) if self.breaks(0.02) else [b"run", b"m"]
+        return self.chance.choice(OTHER_WORDS + SAMPLES) if self.breaks(0.04) else [b"run", b"m"]
 
     # ---- files
 

@@ -14,6 +14,7 @@ import sys
 from pathlib import Path
 
 from replay_answers import answer
+from replay_sample import MOST_SAMPLE, sampled
 from replay_schemas import read_schemas
 from replay_statements import LineRefused, read_statement
 from schema_rules import breach
@@ -391,8 +392,17 @@ def checked(name, text):
     return 2 if any(broken for _, broken in breaches) else 0, "".join(rows).encode()
 
 
+def is_sample(words):
+    """Whether the words are `sample` and at most 255 digits for a number that has a sample."""
+    if len(words) != 2 or words[0] != b"sample" or len(words[1]) > FILE_NAME_LIMIT:
+        return False
+    return bool(INDEX.fullmatch(words[1])) and 1 <= int_of(words[1]) <= MOST_SAMPLE
+
+
 def run(words, files, not_built=NOT_BUILT):
     """The status of a run on these words, and what it prints."""
+    if is_sample(words):
+        return 0, sampled(int_of(words[1]))
     if len(words) != 2 or words[0] not in (b"run", b"check") or not is_file_name(words[1]):
         return 1, USAGE
     it = Run(files, not_built)

@@ -139,7 +139,11 @@ class Replay(unittest.TestCase):
             manifest = re.fullmatch(r"`(tensor B [^`]*)`, and b is `([^`]*)`", case)
             data = re.fullmatch(r"the same, and b is `([^`]*)`", case)
             script = re.fullmatch(r"`([^`]*)`", case)
-            if manifest or data:
+            words = re.fullmatch(r"the words `([^`]*)`", case)
+            if words:
+                wanted_status, wanted_text = run(words[1].encode().split(b" "), "")
+                wanted = wanted_status, wanted_text.decode().rstrip("\n").replace("\n", " / ")
+            elif manifest or data:
                 wanted = printed(B, {"b": (manifest or data).groups()[-1]})
             elif script:
                 wanted = printed(V, {"s": script[1]})
@@ -165,6 +169,10 @@ class Replay(unittest.TestCase):
     def test_words_that_are_no_run(self):
         for words in ([], [b"run"], [b"go", b"m"], [b"run", b""], [b"run", b"\xff"], [b"run", b"m" * 256]):
             self.assertEqual(run(words, ".")[0], 1)
+        for number in (b"", b"0", b"200001", b"+4", b"4\xff", b"0" * 255 + b"4"):
+            self.assertEqual(run([b"sample", number], ".")[0], 1)
+        for number in (b"4", b"04", b"0" * 254 + b"4"):
+            self.assertEqual(run([b"sample", number], "."), (0, b"sample 4\ncount 8\nsum 20\n"))
 
     def test_examples_store_what_it_prints(self):
         folders = sorted(it.parent for it in EXAMPLES.glob("*/args"))

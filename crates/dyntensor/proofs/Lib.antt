@@ -11,3 +11,4 @@ pub mod RunLemmas
 pub mod ReportTexts
 pub mod OutcomeLemmas
 pub mod CheckLemmas
+pub mod SampleLemmas

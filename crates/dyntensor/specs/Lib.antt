@@ -6,6 +6,7 @@ pub mod FaultTexts
 pub mod Leaving
 pub mod Outcome
 pub mod Checks
+pub mod Samples
 pub mod Headline
 pub mod Readings
 pub mod Gathering

@@ -1,15 +1,16 @@
 //! The commands and their top calls.
 //!
 //! `top_run` runs the workload of a manifest, each session on a thread of its own, and writes the report;
-//! `top_check` checks a file of schemas; `main` hands them the words, the real files and standard output.
+//! `top_check` checks a file of schemas; `top_sample` runs a workload that it makes of a number; `main` hands them the
+//! words, the real files and standard output.
 //! A clause sees the words as bytes, the files where the shelf exposes them, what was written where the
 //! sink exposes it, both counts of faults, and what is left of a run's table. Read `specs/Workload.antt`
-//! first, then `specs/Outcome.antt`; for `top_check` read `specs/Checks.antt`.
+//! first, then `specs/Outcome.antt`; for `top_check` read `specs/Checks.antt`, for `top_sample` `specs/Samples.antt`.
 //! Lines, sessions and calls are counted from 1, tensors from 0. A file has at most `FILE_LIMIT`
 //! bytes, as have all scripts together; loaded lines and accepted updates are at most `MOST_LINES`.
 //! Not here: what the lines of a manifest or a script say (`script_read`), those of data (`tns_io`) and
 //! schemas (`schema_read`), which rules schemas keep (`schema_check`),
-//! how a call is made (`sessions`), what a real file or stream has (`dt_outside`).
+//! how a call is made (`sessions`), the world of a sample (`sample_world`), what a real file or stream has (`dt_outside`).
 #![tactic(auto)]
 
 mod checks;
@@ -23,6 +24,9 @@ mod outcomes;
 mod report_rows;
 mod runs;
 #[cfg(test)]
+mod sample_tests;
+mod samples;
+#[cfg(test)]
 mod schema_tests;
 #[cfg(test)]
 mod session_tests;
@@ -35,7 +39,7 @@ mod wide_tests;
 mod workloads;
 
 use crate::outcomes::{Outcome, write_outcome};
-use crate::top::{top_check, top_run};
+use crate::top::{top_check, top_run, top_sample};
 use dt_model::{FILE_NAME_LIMIT, NoMemory};
 use dt_outside::{FileShelf, OpenGate, StreamSink};
 use std::env::{Env, FillError};
@@ -82,10 +86,10 @@ fn words_of(rt: &HostRuntime) -> Result<Vec<String>, NoMemory> {
     Ok(words)
 }
 
-/// Whether the first word is `check`.
-fn is_check(words: &[String]) -> bool {
+/// Whether the first word is this command.
+fn is_command(words: &[String], command: &str) -> bool {
     match words {
-        [word, ..] => word.as_str() == "check",
+        [word, ..] => word.as_str() == command,
         [] => false,
     }
 }
@@ -95,7 +99,10 @@ fn main(rt: HostRuntime) -> ExitCode {
     let mut shelf = FileShelf::new(rt);
     let mut sink = StreamSink::new(rt);
     let status = match words_of(&rt) {
-        Ok(words) if is_check(&words) => top_check(rt.alloc(), &words, &mut shelf, &mut sink),
+        Ok(words) if is_command(&words, "check") => {
+            top_check(rt.alloc(), &words, &mut shelf, &mut sink)
+        }
+        Ok(words) if is_command(&words, "sample") => top_sample(rt.alloc(), &words, &mut sink),
         Ok(words) => {
             let mut end = None;
             top_run(

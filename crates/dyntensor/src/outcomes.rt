@@ -18,7 +18,7 @@ const NO_MEMORY: &[u8] = b"no memory\n";
 /// How a run ends, with what its text needs.
 #[derive(Drop)]
 pub enum Outcome {
-    /// The report of a run, or the rows of a check in which all schemas keep the rules.
+    /// The report of a run, the rows of a check in which all schemas keep the rules, or the text of a sample.
     Report(Vec<u8>),
     /// The usage line.
     Usage,

@@ -64,7 +64,7 @@ fn write_name(before: &str, name: &Name, after: &str, text: &mut Vec<u8>) -> Res
 }
 
 /// Appends a number behind a text.
-fn write_numbered(before: &str, number: u32, text: &mut Vec<u8>) -> Result<(), NoMemory>
+pub fn write_numbered(before: &str, number: u32, text: &mut Vec<u8>) -> Result<(), NoMemory>
     ensures ok { OnOk result (text.new.items ≡ text.old.items ++ before.now ++ decimal number) }
 {
     append(text, before.as_bytes())?;
@@ -72,7 +72,7 @@ fn write_numbered(before: &str, number: u32, text: &mut Vec<u8>) -> Result<(), N
 }
 
 /// Appends a count behind a text.
-fn write_counted(before: &str, count: usize, text: &mut Vec<u8>) -> Result<(), NoMemory>
+pub fn write_counted(before: &str, count: usize, text: &mut Vec<u8>) -> Result<(), NoMemory>
     ensures ok { OnOk result (text.new.items ≡ text.old.items ++ before.now ++ decimal count) }
 {
     append(text, before.as_bytes())?;

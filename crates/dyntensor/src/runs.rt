@@ -29,7 +29,7 @@ fn greater(one: u32, other: u32) -> u32
 }
 
 /// The most calls that a script has, or 1 where each has none.
-fn most_calls(scripts: &[Verdicts]) -> u32
+pub fn most_calls(scripts: &[Verdicts]) -> u32
     requires calls { All (λ script. length script ≤ MOST_CALLS) scripts.now }
     ensures room { All (λ script. length script ≤ result) scripts.now }
     ensures few { (1 ≤ result) × (result ≤ MOST_CALLS) }

@@ -1,14 +1,16 @@
-//! The top calls of `run` and `check`.
-ghost use Rattle.std.specs.Prelude.{◌≡◌, ◌≢◌, ◌≤◌, ◌↔◌, map, string_bytes, None, IfSome, IsSome};
+//! The top calls of `run`, `check` and `sample`.
+ghost use Rattle.std.specs.Prelude.{◌≡◌, ◌≢◌, ◌≤◌, ◌↔◌, ◌⊎◌, map, string_bytes, None, IfSome, IsSome};
 ghost use Rattle.dt_outside.specs.Faults.{HasRisen};
 ghost use Rattle.dyntensor.specs.Checks.{PrintsChecks, HasCheckCause, CompletesCheck};
-ghost use Rattle.dyntensor.specs.Commands.{manifest_named, schemas_named};
+ghost use Rattle.dyntensor.specs.Commands.{manifest_named, sample_numbered, schemas_named};
 ghost use Rattle.dyntensor.specs.Headline.{PrintsWorkload, WritesWhere, Completes};
 ghost use Rattle.dyntensor.specs.Outcome.{HasCause, Ends};
+ghost use Rattle.dyntensor.specs.Samples.{sample_text, HasSampleCause, IsSampleStatus};
 
 use crate::checks::outcome_of_check;
 use crate::drivers::outcome_of;
 use crate::outcomes::write_outcome;
+use crate::samples::outcome_of_sample;
 use dt_outside::{Gate, Shelf, Sink};
 use fiber_latch::Closed;
 use fiber_store::FiberStore;
@@ -89,5 +91,29 @@ pub fn top_check<S: Shelf, K: Sink>(
     ensures files { (S.state shelf.new).files ≡ (S.state shelf.old).files }
 {
     let outcome = outcome_of_check(alloc, words, shelf);
+    write_outcome(sink, &outcome)
+}
+
+/// Runs the sample of the number that the words have, its sessions one after the other on this thread, writes the number, the
+/// count of the nonzeros and their sum, and answers the status: 0 a text, 1 the usage line, 4 a sink that failed, 5 out of
+/// memory, also where a call of a session was. The texts of 1 and 5 take no memory.
+pub fn top_sample<K: Sink>(alloc: Global, words: &[String], sink: &mut K) -> u8
+    // Status 0: what was written is the text of the number, which is taken from the contents once every call was made.
+    ensures sampled { result ≡ 0 → IfSome (sample_numbered (map string_bytes words.now))
+        (λ n. WritesWhere (λ bytes. bytes ≡ sample_text n) (K.written sink.old) (K.written sink.new)) }
+
+    // Every status: the text that was written is due for it, or at 4 a beginning of one that is due, each with its cause.
+    ensures ended { Ends (HasSampleCause (sample_numbered (map string_bytes words.now))) result (K.written sink.old) (K.written sink.new) (K.faults sink.old) (K.faults sink.new) }
+    ensures statuses { IsSampleStatus result }
+
+    // Each fault has its cause.
+    ensures usage { result ≢ 4 → ((result ≡ 1) ↔ (sample_numbered (map string_bytes words.now) ≡ None)) }
+    ensures sink { result ≡ 4 → HasRisen (K.faults sink.old) (K.faults sink.new) }
+    ensures quiet { result ≢ 4 → K.faults sink.new ≡ K.faults sink.old }
+
+    // Where the count doesn't rise, a number is sampled, unless the call is out of memory.
+    ensures complete { (HasRisen (K.faults sink.old) (K.faults sink.new) → ⊥) → IfSome (sample_numbered (map string_bytes words.now)) (λ n. (result ≡ 0) ⊎ (result ≡ 5)) }
+{
+    let outcome = outcome_of_sample(alloc, words);
     write_outcome(sink, &outcome)
 }

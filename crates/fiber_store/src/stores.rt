@@ -1,5 +1,5 @@
 //! The store of one fiber.
-ghost use Rattle.std.specs.Prelude.{◌≡◌, ◌+◌, ◌<◌, ℕ, List, [], ◌∷◌, All, length, IsTrue, IfOk, OnOk, OnErr};
+ghost use Rattle.std.specs.Prelude.{◌≡◌, ◌+◌, ◌<◌, ℕ, List, [], ◌∷◌, All, length, IsTrue, IfOk, IfSome, MatchOption, OnOk, OnErr};
 ghost use Rattle.commit_core.specs.Cells.{without_zeros};
 ghost use Rattle.dt_model.specs.Contents.{with_update};
 ghost use Rattle.dt_model.specs.Pairs.{IsAscending};
@@ -92,6 +92,17 @@ impl FiberStore {
         self.cells.reserve(due.len())?;
         self.due = due;
         Ok(())
+    }
+
+    /// A copy of the update that is due first, if there is one.
+    pub fn first_due(&self) -> Option<Update>
+        ensures some { IfSome result (λ update. (rest : List Update) × (self.now.due ≡ update ∷ rest)) }
+        ensures none { MatchOption result (self.now.due ≡ []) (λ update. Unit {0}) }
+    {
+        match self.due.front() {
+            Some(update) => Some(update.copy()),
+            None => None,
+        }
     }
 
     /// Makes the update that is due first. It takes no memory, and the time of two binary searches; a

@@ -234,6 +234,23 @@ fn updates_of_other_fibers_are_passed_over(rt: HostRuntime) -> Result<(), Fail> 
 }
 
 #[test]
+fn first_update_of_the_fiber_is_due_first(rt: HostRuntime) -> Result<(), Fail> {
+    let alloc = rt.alloc();
+    let decls = declared(alloc)?;
+    let mut store = second_of_v(alloc, &decls)?;
+    assert!(rt; store.first_due().is_none());
+    let updates = and_three(
+        two(alloc, set(v(2), 1), set(v(4), 7))?,
+        add(v(3), 5),
+        set(m(2, 1), 6),
+        set(v(4), 9),
+    )?;
+    store.prepare(&updates)?;
+    assert!(rt; store.first_due() == Some(set(v(4), 7)));
+    Ok(())
+}
+
+#[test]
 fn sums_wrap_and_zeros_drop_out(rt: HostRuntime) -> Result<(), Fail> {
     let alloc = rt.alloc();
     let decls = declared(alloc)?;

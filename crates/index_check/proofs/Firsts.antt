@@ -1,5 +1,5 @@
 -- The first dimension of each variable, kept in an array.
-use Rattle.std.proofs.Common.{◌≡◌, ◌≢◌, ℕ, suc, ltb, ◌+◌, ◌-◌, ◌<◌, ◌≤◌, [], ◌∷◌, ◌++◌, take, drop, Bool, true, false, cond, eqb, not, List, length, get_or, Option, Some, None, refl, ap, sym, ◌∙◌, arith, get_or-set_same, get_or-set_other}
+use Rattle.std.proofs.Common.{◌≡◌, ◌≢◌, ℕ, suc, ltb, ◌-◌, ◌<◌, ◌≤◌, [], ◌∷◌, ◌++◌, take, drop, Bool, true, false, cond, eqb, not, List, length, get_or, Option, Some, None, refl, ap, sym, ◌∙◌, arith, get_or-set_same, get_or-set_other}
 use Rattle.std.proofs.Math.ListN.{set, replicate, get_or-eq_default}
 use Rattle.std.specs.Prelude.{find, ◌==◌}
 use Rattle.std.specs.Option.{option_map, option_or, option_and_then}

@@ -1,10 +1,12 @@
 -- A small statement's variables are among its names.
-use Rattle.std.proofs.Common.{◌≡◌, ℕ, zero, suc, ◌+◌, ◌<◌, ◌≤◌, ◌++◌, Bool, true, false, not, cond, eqb, ltb, List, [], ◌∷◌, Option, Some, None, length, length-append, get_or, All, refl, ap, sym, ◌∙◌, arith, subst}
+use Rattle.std.proofs.Common.{◌≡◌, ℕ, zero, suc, ◌+◌, ◌<◌, ◌≤◌, ◌++◌, Bool, true, false, not, cond, eqb, ltb, List, [], ◌∷◌, length, length-append, get_or, All, refl, ap, sym, ◌∙◌, arith, subst}
 use native.Mathlib.Nat.{zero-add}
 use Rattle.std.specs.Prelude.{◌||◌, ◌&&◌, nat_lt, nat_le, nat_eq}
 use Rattle.std.specs.List.{flat_map, list_all, range_with_len}
 use Rattle.std.specs.Cmp.Lexicographic.{pointwise, same_text}
 use Rattle.std.proofs.lemmas.Bool.Decides.{nat_tests}
+use Rattle.std.proofs.Math.ListN.{get_or-append}
+use Rattle.std.proofs.lemmas.List.{get_or-append-add}
 use Rattle.std.proofs.lemmas.List.Folds.{list_all-append}
 use Rattle.dt_model.specs.declared.statements.Expr.{Expr, end_of-Expr, more_of-Expr}
 use Rattle.dt_model.specs.declared.statements.Expr.TheVariants.{Literal, Access, Plus', Minus', Times', Negate'}
@@ -229,3 +231,26 @@ pub all_places_below : (n : ℕ) (d : Decls) (accs : List (List ℕ × List ℕ)
     → All (λ (p : ℕ × ℕ). p.0 < n) (all_places d accs)
 all_places_below n d accs h = λ k q l. less (get_or (all_places d accs) k q).0 n (list_all-at (λ (p : ℕ
     × ℕ). below n p.0) (all_places d accs) k q l (all_places_pass n d accs h))
+
+-- an access has as many places as variables
+pub length-places_with_dims : (d : Decls) (name : List ℕ) (k : ℕ) (vs : List ℕ) → length (places_with_dims d name k vs) ≡ length vs
+length-places_with_dims d name k [] = refl
+length-places_with_dims d name k (v ∷ vs) = ap suc (length-places_with_dims d name (k + 1) vs)
+
+-- ---- sides
+
+-- what is below n in the whole is so in the first side
+pub known_first : (n : ℕ) (xs ys zs us : List (List ℕ × List ℕ)) → zs ≡ xs ++ ys → us ≡ xs → AllVarsBelow n zs → AllVarsBelow n us
+known_first n xs ys zs us both first h =
+    let P = λ (a : List ℕ × List ℕ). All (λ v. v < n) a.1 in
+    let whole : All P (xs ++ ys) = subst (All P) both h in
+    let part : All P xs = λ k d l. subst P (get_or-append xs ys d k l) (whole k d (omega (arith, length-append xs ys, l))) in
+    subst (All P) (sym first) part
+
+-- what is below n in the whole is so in the second side
+pub known_second : (n : ℕ) (xs ys zs us : List (List ℕ × List ℕ)) → zs ≡ xs ++ ys → us ≡ ys → AllVarsBelow n zs → AllVarsBelow n us
+known_second n xs ys zs us both second h =
+    let P = λ (a : List ℕ × List ℕ). All (λ v. v < n) a.1 in
+    let whole : All P (xs ++ ys) = subst (All P) both h in
+    let part : All P ys = λ k d l. subst P (get_or-append-add xs ys k d) (whole (length xs + k) d (omega (arith, length-append xs ys, l))) in
+    subst (All P) (sym second) part

@@ -1,9 +1,12 @@
+pub mod Nodes
 pub mod Laws
 pub mod Joining
 pub mod NthNames
 pub mod Firsts
 pub mod Own
 pub mod Known
+pub mod FaultsLemmas
+pub mod SmallLemmas
 pub mod ListingLemmas
 pub mod LoopOrdersLemmas
 pub mod ListedLemmas

@@ -1,13 +1,13 @@
 -- What the parts of the check look at.
-use Rattle.std.specs.Prelude.{◌≡◌, ℕ, ◌<◌, Bool, true, not, List, [], ◌∷◌, ◌++◌, map, length, Option, Some, None, ◌==◌, ◌&&◌, find, All, slice_index_or}
+use Rattle.std.specs.Prelude.{◌≡◌, ℕ, ◌<◌, Bool, List, [], map, length, Option, None, ◌==◌, find, All, slice_index_or}
 use Rattle.std.specs.List.{flat_map, enumerate_from}
 use Rattle.std.specs.Option.{option_map}
 use Rattle.dt_model.specs.declared.statements.Expr.{Expr}
 use Rattle.dt_model.specs.declared.statements.Stmt.{Stmt}
 use Rattle.dt_model.specs.declared.declared_tensors.Decls.{Decls}
 use Rattle.dt_model.specs.declared.replies.Refusal.{Refusal}
-use Rattle.dt_model.specs.Statements.{accesses, terms, contains_number}
-use Rattle.dt_model.specs.Refusals.{covers, places_with_dims, or_else, first_of_all, undeclared_fault, rank_fault, dimension_fault, repeated_fault, access_fault, cover_fault}
+use Rattle.dt_model.specs.Statements.{accesses, terms}
+use Rattle.dt_model.specs.Refusals.{places_with_dims, or_else, first_of_all, undeclared_fault, rank_fault, dimension_fault, repeated_fault, access_fault, cover_fault}
 
 -- whether an expression has no access
 abbrev pub has_no_access : Expr → Bool

@@ -7,22 +7,23 @@ ghost use Rattle.dt_model.specs.Statements.{contains_number};
 ghost use Rattle.dt_model.specs.Refusals.{first_of_all, undeclared_fault, rank_fault, repeated_fault, nth_name, covers};
 ghost use Rattle.index_check.specs.Parts.{AllVarsBelow};
 
+use crate::accesses::Access;
 use crate::declared::{is_declared, order_named};
 use crate::variables::{repeated_fault, uncovered_own};
-use dt_model::{Decls, Expr, Name, Refusal, Vars};
+use dt_model::{Decls, Expr, Name, Refusal};
 
 /// The first access whose tensor isn't declared.
-pub fn undeclared_in(decls: &Decls, accesses: &[(Name, Vars)]) -> Option<Refusal>
+pub fn undeclared_in(decls: &Decls, accesses: &[Access]) -> Option<Refusal>
     ensures value { result ≡ first_of_all (map (undeclared_fault decls.now) accesses.now) }
 {
     match accesses {
         [] => None,
         [access, rest @ ..] => {
-            if is_declared(decls, &access.0) {
+            if is_declared(decls, access.tensor()) {
                 undeclared_in(decls, rest)
             } else {
                 Some(Refusal::Name {
-                    name: access.0.copy(),
+                    name: access.tensor().copy(),
                 })
             }
         }
@@ -30,19 +31,19 @@ pub fn undeclared_in(decls: &Decls, accesses: &[(Name, Vars)]) -> Option<Refusal
 }
 
 /// The first access whose count of variables isn't its tensor's order.
-pub fn misranked_in(decls: &Decls, accesses: &[(Name, Vars)]) -> Option<Refusal>
+pub fn misranked_in(decls: &Decls, accesses: &[Access]) -> Option<Refusal>
     ensures value { result ≡ first_of_all (map (rank_fault decls.now) accesses.now) }
 {
     match accesses {
         [] => None,
         [access, rest @ ..] => {
-            let given = access.1.len();
-            let order = order_named(decls, &access.0);
+            let given = access.vars().len();
+            let order = order_named(decls, access.tensor());
             if given == order {
                 misranked_in(decls, rest)
             } else {
                 Some(Refusal::Rank {
-                    name: access.0.copy(),
+                    name: access.tensor().copy(),
                     given: given as u32,
                     order: order as u32,
                 })
@@ -52,13 +53,13 @@ pub fn misranked_in(decls: &Decls, accesses: &[(Name, Vars)]) -> Option<Refusal>
 }
 
 /// The first access that has a variable twice.
-pub fn repeated_in_access(names: &[Name], accesses: &[(Name, Vars)]) -> Option<Refusal>
+pub fn repeated_in_access(names: &[Name], accesses: &[Access]) -> Option<Refusal>
     requires known { AllVarsBelow (length names.now) accesses.now }
     ensures value { result ≡ first_of_all (map (λ a. repeated_fault names.now a.1) accesses.now) }
 {
     match accesses {
         [] => None,
-        [access, rest @ ..] => match repeated_fault(names, access.1.as_slice()) {
+        [access, rest @ ..] => match repeated_fault(names, access.vars().as_slice()) {
             Some(fault) => Some(fault),
             None => repeated_in_access(names, rest),
         },
@@ -71,14 +72,20 @@ pub fn uncovered_in_access(
     term: u32,
     expr: &Expr,
     left: &[u8],
-    accesses: &[(Name, Vars)],
+    accesses: &[Access],
 ) -> Option<Refusal>
     requires known { AllVarsBelow (length names.now) accesses.now }
     ensures value { result ≡ option_map (λ v. because.Uncovered term (nth_name names.now v)) (find (λ v. not (contains_number left.now v) && not (covers expr.now v)) (flat_map (λ a. a.1) accesses.now)) }
 {
     match accesses {
         [] => None,
-        [access, rest @ ..] => match uncovered_own(names, term, expr, left, access.1.as_slice()) {
+        [access, rest @ ..] => match uncovered_own(
+            names,
+            term,
+            expr,
+            left,
+            access.vars().as_slice(),
+        ) {
             Some(fault) => Some(fault),
             None => uncovered_in_access(names, term, expr, left, rest),
         },

@@ -1,57 +1,59 @@
 //! The dimension of each place of a variable, and the first that differs from an earlier one.
-ghost use Rattle.std.specs.Prelude.{◌≡◌, ◌+◌, ◌<◌, ◌≤◌, ℕ, List, [], ◌∷◌, ◌++◌, length, All, Option, None, OnOk};
+ghost use Rattle.std.specs.Prelude.{◌≡◌, ◌+◌, ◌*◌, ◌<◌, ◌≤◌, ℕ, List, [], ◌∷◌, ◌++◌, length, All, Option, None};
+ghost use Rattle.dt_model.specs.declared.limits.TheConstants.{MOST_ACCESSES, MOST_VARIABLES};
 ghost use Rattle.dt_model.specs.Refusals.{places_with_dims, dimension_fault};
+ghost use Rattle.index_check.specs.declared.places.TheConstants.{MOST_PLACES};
 ghost use Rattle.index_check.specs.Parts.{all_places, IsFirsts, AllVarsBelow};
 
+use crate::accesses::Access;
 use crate::declared::dim_named;
 use crate::variables::name_at;
-use dt_model::{Decls, Name, NoMemory, Refusal, Vars};
+use arrayvec::ArrayVec;
+use dt_model::{Decls, MOST_ACCESSES, MOST_VARIABLES, Name, Refusal};
 
-/// Puts a place behind others.
-fn put(list: &mut Vec<(u8, u32)>, var: u8, dim: u32) -> Result<(), NoMemory>
-    ensures ok { OnOk result (list.new.items ≡ list.old.items ++ (var, dim) ∷ []) }
-{
-    match list.push((var, dim)) {
-        Ok(()) => Ok(()),
-        Err(_) => Err(NoMemory),
-    }
-}
+/// The places of variables in all accesses of a statement.
+pub const MOST_PLACES: usize = MOST_ACCESSES * MOST_VARIABLES;
+
+/// Variables from left to right, each with the dimension of its place.
+pub type Places = ArrayVec<(u8, u32), MOST_PLACES>;
 
 /// Puts the variables of an access behind others, each with the dimension of its place.
-fn add_places(
-    decls: &Decls,
-    name: &Name,
-    place: usize,
-    vars: &[u8],
-    list: &mut Vec<(u8, u32)>,
-) -> Result<(), NoMemory>
-    requires few { place + length vars.now ≤ 8 }
-    ensures ok { OnOk result (list.new.items ≡ list.old.items ++ places_with_dims decls.now name.now place vars.now) }
+fn add_places(decls: &Decls, name: &Name, place: usize, vars: &[u8], list: &mut Places)
+    requires few { place + length vars.now ≤ MOST_VARIABLES }
+    requires room { length list.old.items + length vars.now ≤ MOST_PLACES }
+    ensures value { list.new.items ≡ list.old.items ++ places_with_dims decls.now name.now place vars.now }
 {
     match vars {
-        [] => Ok(()),
+        [] => {}
         [var, rest @ ..] => {
-            put(list, *var, dim_named(decls, name, place))?;
-            add_places(decls, name, place + 1, rest, list)
+            list.push((*var, dim_named(decls, name, place)));
+            add_places(decls, name, place + 1, rest, list);
         }
     }
 }
 
 /// Puts the variables of some accesses behind others, each with the dimension of its place.
-pub fn add_all_places(
-    decls: &Decls,
-    accesses: &[(Name, Vars)],
-    list: &mut Vec<(u8, u32)>,
-) -> Result<(), NoMemory>
-    ensures ok { OnOk result (list.new.items ≡ list.old.items ++ all_places decls.now accesses.now) }
+fn add_all_places(decls: &Decls, accesses: &[Access], list: &mut Places)
+    requires room { length list.old.items + MOST_VARIABLES * length accesses.now ≤ MOST_PLACES }
+    ensures value { list.new.items ≡ list.old.items ++ all_places decls.now accesses.now }
 {
     match accesses {
-        [] => Ok(()),
+        [] => {}
         [access, rest @ ..] => {
-            add_places(decls, &access.0, 0, access.1.as_slice(), list)?;
-            add_all_places(decls, rest, list)
+            add_places(decls, access.tensor(), 0, access.vars().as_slice(), list);
+            add_all_places(decls, rest, list);
         }
     }
+}
+
+/// The variables of some accesses, each with the dimension of its place. It takes no memory.
+pub fn places_of(decls: &Decls, accesses: &[Access]) -> Places
+    requires few { length accesses.now ≤ MOST_ACCESSES }
+    ensures value { result.items ≡ all_places decls.now accesses.now }
+{
+    let mut list = Places::new();
+    add_all_places(decls, accesses, &mut list);
+    list
 }
 
 /// The first place whose variable has another dimension than at its first place.

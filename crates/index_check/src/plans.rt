@@ -18,10 +18,10 @@ pub struct Kernel {
     pub vars: Vars,
     /// The same variables in the order of the loops, the outermost first.
     pub order: Vars,
-    /// The terms: bit t - 1 is term t's.
+    /// The terms: bit t is term t's, counted from 0.
     pub terms: u32,
-    /// The accesses that are repacked, since their own order of variables isn't that of the loops: bit
-    /// a - 1 is access a's, counted over the whole statement.
+    /// The accesses that are repacked, since their own order of variables isn't that of the loops: bit a
+    /// is access a's, counted from 0 over the whole statement.
     pub repack: u16,
 }
 
@@ -73,7 +73,7 @@ pub(crate) fn plan_of(alloc: Global, decls: &Decls, stmt: &Stmt) -> Result<Plan,
     requires small { is_small stmt.now ≡ true }
     ensures plan { IfOk result (λ plan. plan ≡ plan_of decls.now stmt.now) }
 {
-    let list = accesses_of(alloc, &stmt.right)?;
+    let list = accesses_of(&stmt.right);
     let mut terms = Vec::new(alloc);
     add_terms(alloc, true, &stmt.right, &mut terms)?;
     let kernels = kernels_of(alloc, stmt, terms.as_slice())?;

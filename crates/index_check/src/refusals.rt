@@ -1,21 +1,19 @@
 //! The first reason to refuse a statement.
 ghost use Rattle.std.specs.Prelude.{◌≡◌, ◌<◌, ◌≤◌, ℕ, true, List, [], length, map, All, Option, Some, None, IfOk};
-ghost use Rattle.std.specs.List.{enumerate_from};
-ghost use Rattle.dt_model.specs.Statements.{accesses, terms};
-ghost use Rattle.dt_model.specs.Refusals.{statement_fault, dimension_fault, first_of_all, or_else, access_fault, cover_fault};
+ghost use Rattle.dt_model.specs.Statements.{accesses};
+ghost use Rattle.dt_model.specs.Refusals.{statement_fault, dimension_fault};
 ghost use Rattle.dt_model.specs.Verdicts.{is_small};
 ghost use Rattle.index_check.specs.Parts.{all_places, AllVarsBelow, access_faults, term_faults};
 ghost use Rattle.index_check.specs.Plans.{plan_of};
 ghost use Rattle.index_check.specs.Refused.{IsRefusedBy};
 
 use crate::access_faults::{misranked_in, repeated_in_access, undeclared_in};
-use crate::accesses::accesses_of;
-use crate::places::{add_all_places, dimension_fault};
+use crate::accesses::{Access, accesses_of};
+use crate::places::{dimension_fault, places_of};
 use crate::plans::{Plan, plan_of};
 use crate::term_faults::{accessless_in, uncovered_in_terms};
-use crate::terms::add_terms;
 use crate::variables::repeated_fault;
-use dt_model::{Decls, Name, NoMemory, Refusal, Stmt, Vars};
+use dt_model::{Decls, Name, NoMemory, Refusal, Stmt};
 use std::alloc::Global;
 
 /// Why there is no plan.
@@ -40,7 +38,7 @@ fn misfit_in(names: &[Name], places: &[(u8, u32)]) -> Option<Refusal>
 fn fault_of_accesses(
     decls: &Decls,
     stmt: &Stmt,
-    list: &[(Name, Vars)],
+    list: &[Access],
     places: &[(u8, u32)],
 ) -> Option<Refusal>
     requires left { All (λ v. v < length stmt.now.vars.items) stmt.now.left }
@@ -65,42 +63,40 @@ fn fault_of_accesses(
 }
 
 /// The first fault of the terms.
-fn fault_of_terms(alloc: Global, stmt: &Stmt) -> Result<Option<Refusal>, NoMemory>
+fn fault_of_terms(stmt: &Stmt) -> Option<Refusal>
     requires small { is_small stmt.now ≡ true }
-    ensures value { IfOk result (λ r. r ≡ term_faults stmt.now) }
+    ensures value { result ≡ term_faults stmt.now }
 {
-    let mut list = Vec::new(alloc);
-    add_terms(alloc, true, &stmt.right, &mut list)?;
-    match accessless_in(list.as_slice(), 0) {
-        Some(fault) => Ok(Some(fault)),
-        None => uncovered_in_terms(alloc, stmt, list.as_slice(), 0),
+    match accessless_in(true, &stmt.right, 0) {
+        Some(fault) => Some(fault),
+        None => uncovered_in_terms(stmt, true, &stmt.right, 0),
     }
 }
 
-/// The first reason to refuse a statement.
-fn first_fault(alloc: Global, decls: &Decls, stmt: &Stmt) -> Result<Option<Refusal>, NoMemory>
+/// The first reason to refuse a statement, if there is one. It takes no memory, and time by the
+/// statement, and by the number of declared tensors for each access.
+pub fn fault_of(decls: &Decls, stmt: &Stmt) -> Option<Refusal>
     requires small { is_small stmt.now ≡ true }
-    ensures value { IfOk result (λ r. r ≡ statement_fault decls.now stmt.now) }
+    ensures value { result ≡ statement_fault decls.now stmt.now }
 {
-    let list = accesses_of(alloc, &stmt.right)?;
-    let mut places = Vec::new(alloc);
-    add_all_places(decls, list.as_slice(), &mut places)?;
+    let list = accesses_of(&stmt.right);
+    let places = places_of(decls, list.as_slice());
     match fault_of_accesses(decls, stmt, list.as_slice(), places.as_slice()) {
-        Some(fault) => Ok(Some(fault)),
-        None => fault_of_terms(alloc, stmt),
+        Some(fault) => Some(fault),
+        None => fault_of_terms(stmt),
     }
 }
 
-/// The plan of a statement, or the first reason to refuse it. It takes time by the statement alone.
+/// The plan of a statement, or the first reason to refuse it. It takes time by the statement, and
+/// by the number of declared tensors for each access.
 pub fn check_stmt(alloc: Global, decls: &Decls, stmt: &Stmt) -> Result<Plan, CheckFault>
     requires small { is_small stmt.now ≡ true }
     ensures refused { IsRefusedBy (statement_fault decls.now stmt.now) result }
     ensures plan { IfOk result (λ plan. plan ≡ plan_of decls.now stmt.now) }
 {
-    match first_fault(alloc, decls, stmt) {
-        Err(NoMemory) => Err(CheckFault::NoMemory),
-        Ok(Some(refusal)) => Err(CheckFault::Refused(refusal)),
-        Ok(None) => match plan_of(alloc, decls, stmt) {
+    match fault_of(decls, stmt) {
+        Some(refusal) => Err(CheckFault::Refused(refusal)),
+        None => match plan_of(alloc, decls, stmt) {
             Ok(plan) => Ok(plan),
             Err(NoMemory) => Err(CheckFault::NoMemory),
         },

@@ -1,5 +1,5 @@
 //! The terms of an expression, and what they cover.
-ghost use Rattle.std.specs.Prelude.{◌≡◌, [], ◌∷◌, ◌++◌, OnOk, not, length, ◌==◌};
+ghost use Rattle.std.specs.Prelude.{◌≡◌, [], ◌∷◌, ◌++◌, ◌+◌, ◌≤◌, OnOk, not, length, ◌==◌};
 ghost use Rattle.dt_model.specs.Statements.{terms_under, accesses};
 ghost use Rattle.dt_model.specs.Refusals.{covers};
 ghost use Rattle.index_check.specs.Parts.{has_no_access};
@@ -46,6 +46,22 @@ pub fn add_terms(
             add_terms(alloc, !added, b.get(), list)
         }
         Expr::Negate(a) => add_terms(alloc, !added, a.get(), list),
+    }
+}
+
+/// How many terms an expression has.
+#[tactic(auto, using(crate::proofs::Laws::term_count_laws))]
+pub fn count_terms(added: bool, expr: &Expr) -> u32
+    requires few { length (terms_under added expr.now) ≤ 64 }
+    ensures value { result ≡ length (terms_under added expr.now) }
+{
+    match expr {
+        Expr::Literal(_) => 1,
+        Expr::Access { tensor: _, vars: _ } => 1,
+        Expr::Times(_, _) => 1,
+        Expr::Plus(a, b) => count_terms(added, a.get()) + count_terms(added, b.get()),
+        Expr::Minus(a, b) => count_terms(added, a.get()) + count_terms(!added, b.get()),
+        Expr::Negate(a) => count_terms(!added, a.get()),
     }
 }
 

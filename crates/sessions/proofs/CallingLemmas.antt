@@ -5,11 +5,11 @@ use Rattle.dt_model.specs.declared.calls.Entry.{Entry}
 use Rattle.dt_model.specs.declared.calls.Turn.{Turn}
 use Rattle.dt_model.specs.declared.replies.Reply.{Reply}
 use Rattle.fiber_latch.specs.Views.{In, Extends}
-use Rattle.fiber_latch.specs.Seats.{SeatState, IsOutside, last_number, without_top}
+use Rattle.fiber_latch.specs.Seats.{SeatState, IsOutside, last_number}
 use Rattle.fiber_latch.proofs.ViewsLemmas.{in_append}
 use Rattle.fiber_latch.proofs.LastNumbers.{last_number-past}
 use Rattle.fiber_latch.proofs.SeatsLemmas.{number_stays}
-use Rattle.sessions.specs.Calling.{IsNext, CanMake, GoesOn, HasMade, IsOutOfMemory, IsGivenUp}
+use Rattle.sessions.specs.Calling.{IsNext, CanMake, GoesOn, HasMade, IsGivenUp}
 use Rattle.sessions.specs.Entering.{IsForeign}
 
 -- ---- entries that came between
@@ -60,10 +60,6 @@ IsNext-goes turn old new g n = subst (IsNext turn) (sym g.rest) (record {
 pub IsNext-conflicts : (turn : Turn) (old : SeatState) (m : List (ℕ × ℕ)) → IsNext turn old → IsNext turn (record old { conflicts = m })
 IsNext-conflicts turn old m n = record { low = n.low; high = n.high; above = n.above; few = n.few }
 
--- a call that may be made may still, whatever was met
-pub CanMake-conflicts : (e : Entry) (old : SeatState) (m : List (ℕ × ℕ)) → CanMake e old → CanMake e (record old { conflicts = m })
-CanMake-conflicts e old m can = record { next = IsNext-conflicts e.turn old m can.next; valid = can.valid; idle = can.idle }
-
 -- ---- steps
 
 -- one step after another
@@ -91,20 +87,7 @@ GoesOn-seen old new held conflicts seen e grown = subst (GoesOn old) (sym e) (re
   grown = Extends-weaker (IsForeign old) (IsOutside old.first old.last) old.seen seen (λ x f. f.session) grown;
 })
 
--- what was met before doesn't matter
-pub GoesOn-conflicts : (old new : SeatState) (m : List (ℕ × ℕ)) → GoesOn (record old { conflicts = m }) new → GoesOn old new
-GoesOn-conflicts old new m g = record { rest = g.rest; grown = g.grown }
-
--- a latch was taken and given back
-pub back_again : (old mid new : SeatState) (l s : ℕ) → mid ≡ record old { held = (l, s) ∷ old.held; seen = mid.seen } → Extends (IsForeign old) old.seen
-    mid.seen
-    → new ≡ without_top mid → (new ≡ record old { seen = new.seen }) × Extends (IsForeign old) old.seen new.seen
-back_again old mid new l s rest grown last =
-    let n : new ≡ record old { seen = mid.seen } = last ∙ ap without_top rest in
-    let q : new.seen ≡ mid.seen = ap (λ (x : SeatState). x.seen) n in
-    (n ∙ ap (λ (z : List Entry). record old { seen = z }) (sym q), subst (λ (z : List Entry). Extends (IsForeign old) old.seen z) (sym q) grown)
-
--- ---- calls that wait: only what was met differs
+-- ---- what was met before
 
 -- the same entries are foreign, whatever was met
 pub Extends-conflicts : (old : SeatState) (m : List (ℕ × ℕ)) (xs ys : List Entry) → Extends (IsForeign (record old { conflicts = m })) xs ys
@@ -112,20 +95,7 @@ pub Extends-conflicts : (old : SeatState) (m : List (ℕ × ℕ)) (xs ys : List 
 Extends-conflicts old m xs ys p =
     Extends-weaker (IsForeign (record old { conflicts = m })) (IsForeign old) xs ys (λ e f. record { session = f.session; latch = f.latch }) p
 
--- a call that was made is made, whatever was met before
-pub HasMade-conflicts : (e : Entry) (reply : Reply) (old new : SeatState) (m : List (ℕ × ℕ)) → HasMade e reply (record old { conflicts = m }) new
-    → HasMade e reply old new
-HasMade-conflicts e reply old new m h = record { before = h.before; grown = h.grown; seen = h.seen; rest = h.rest; answers = h.answers }
-
 -- ---- out of memory
-
--- what was taken was given back, and nothing was met
-pub IsOutOfMemory-goes : (old mid new : SeatState) → GoesOn old mid → mid.conflicts ≡ old.conflicts → new ≡ record mid { held = old.held }
-    → IsOutOfMemory old new
-IsOutOfMemory-goes old mid new goes same last =
-    let n : new ≡ record old { seen = mid.seen } = last ∙ ap (λ (s : SeatState). record s { held = old.held }) goes.rest
-    ∙ ap (λ (c : List (ℕ × ℕ)). record old { seen = mid.seen; conflicts = c }) same in
-    subst (IsOutOfMemory old) (sym n) (record { rest = refl; grown = goes.grown })
 
 -- what was taken was given back
 pub IsGivenUp-goes : (old mid new : SeatState) → GoesOn old mid → new ≡ record mid { held = old.held } → IsGivenUp old new
@@ -133,10 +103,17 @@ IsGivenUp-goes old mid new goes last =
     let n : new ≡ record old { seen = mid.seen; conflicts = mid.conflicts } = last ∙ ap (λ (s : SeatState). record s { held = old.held }) goes.rest in
     subst (IsGivenUp old) (sym n) (record { rest = refl; grown = goes.grown })
 
--- nothing was done
-pub IsOutOfMemory-none : (s : SeatState) → IsOutOfMemory s s
-IsOutOfMemory-none s = record { rest = refl; grown = Extends-none (IsOutside s.first s.last) s.seen }
+-- a seat that held nothing holds again what it held
+pub idle_again : (old mid new : SeatState) → old.held ≡ [] → new ≡ record mid { held = [] } → new ≡ record mid { held = old.held }
+idle_again old mid new idle last = last ∙ ap (λ (h : List (ℕ × ℕ)). record mid { held = h }) (sym idle)
 
--- nothing was done by a call that may wait
+-- a latch more was tried, and then what was taken was given back
+pub IsGivenUp-noted : (old mid new : SeatState) → GoesOn old mid → old.held ≡ [] → new ≡ record mid { held = []; conflicts = new.conflicts } → IsGivenUp old new
+IsGivenUp-noted old mid new goes idle last =
+    IsGivenUp-goes old (record mid { conflicts = new.conflicts }) new
+    (GoesOn-more old mid (record mid { conflicts = new.conflicts }) goes (GoesOn-by mid (record mid { conflicts = new.conflicts }) mid.held new.conflicts refl))
+    (last ∙ ap (λ (h : List (ℕ × ℕ)). record mid { held = h; conflicts = new.conflicts }) (sym idle))
+
+-- nothing was done
 pub IsGivenUp-none : (s : SeatState) → IsGivenUp s s
 IsGivenUp-none s = record { rest = refl; grown = Extends-none (IsOutside s.first s.last) s.seen }

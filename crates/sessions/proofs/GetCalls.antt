@@ -1,5 +1,5 @@
 -- A call that needs one fiber: a get.
-use Rattle.std.proofs.Common.{◌≡◌, ℕ, ◌<◌, ◌==◌, true, List, [], ◌∷◌, IsTrue, sym, refl, ap, ◌∙◌, subst, inl, ⊎_elim, drop}
+use Rattle.std.proofs.Common.{◌≡◌, ℕ, ◌<◌, ◌==◌, Bool, true, List, [], ◌∷◌, IsTrue, sym, refl, ap, ◌∙◌, subst, inl, ⊎_elim, drop}
 use Rattle.std.proofs.lemmas.Bool.Decides.{Decides-eqb}
 use Rattle.commit_core.specs.Machine.{commit_needs}
 use Rattle.dt_model.specs.declared.calls.Call.TheVariants.{Get}
@@ -13,34 +13,37 @@ use Rattle.dt_model.specs.Latches.{latch_of_cell}
 use Rattle.dt_model.specs.Tensors.{latch_count}
 use Rattle.dt_model.specs.Verdicts.{call_is_valid}
 use Rattle.fiber_latch.specs.declared.view.TableConfig.{TableConfig}
-use Rattle.fiber_latch.specs.declared.rule.Busy.{Busy}
 use Rattle.fiber_latch.specs.declared.rule.Kept.TheVariants.{Fiber}
-use Rattle.fiber_latch.specs.Views.{In}
+use Rattle.fiber_latch.specs.Views.{In, Extends}
 use Rattle.fiber_latch.specs.Rule.{GoodAt}
-use Rattle.fiber_latch.specs.Seats.{SeatState, IsBusy, IsTaken, without_top}
-use Rattle.sessions.specs.Calling.{CanMake, HasMade, IsStopped, entry_at}
-use Rattle.sessions.specs.Entering.{CanEnter, HasEntered}
-use Rattle.sessions.proofs.CallingLemmas.{IsNext-taken, GoesOn-none, GoesOn-seen}
+use Rattle.fiber_latch.specs.Seats.{SeatState, IsOutside, IsTaken, without_top}
+use Rattle.sessions.specs.Calling.{CanMake, GoesOn, HasMade, IsGivenUp, entry_at}
+use Rattle.sessions.specs.Entering.{CanEnter, HasEntered, IsForeign}
+use Rattle.sessions.specs.Holding.{IsOnlyNoted}
+use Rattle.sessions.specs.Noting.{Notes}
+use Rattle.sessions.proofs.CallingLemmas.{Extends-conflicts, Extends-none, IsNext-taken, GoesOn-seen, IsGivenUp-noted}
 use Rattle.sessions.proofs.EnteringLemmas.{good_before, good_behind, good_number, has_made, entered_held}
-use Rattle.sessions.proofs.StoppedCalls.{is_stopped, commit_needs-own, commit_needs-journal, same_number}
+use Rattle.sessions.proofs.NotingLemmas.{Notes-later, Notes-more, Notes-weaker, commit_needs-own, commit_needs-journal, number_is, same_number}
 
 -- a get needs the latch of its cell
-pub commit_needs-cell : (d : Decls) (cell : Cell) (l : ℕ) → l ≡ latch_of_cell d cell → IsTrue (commit_needs d (Get cell) l)
-commit_needs-cell d cell l is = commit_needs-own d (Get cell) l (same_number (latch_of_cell d cell) l (sym is))
+pub commit_needs-cell : (d : Decls) (cell : Cell) (l k : ℕ) → l ≡ latch_of_cell d cell → (k == l) ≡ true → IsTrue (commit_needs d (Get cell) k)
+commit_needs-cell d cell l k here is = commit_needs-own d (Get cell) k (same_number (latch_of_cell d cell) k (sym (number_is k l is ∙ here)))
 
--- the latch of the cell was held by another
-pub get_blocked : (l : ℕ) (cell : Cell) (old new : SeatState) (b : Busy) → l ≡ latch_of_cell old.config.world.decls cell → IsBusy l old b new
-    → IsStopped (Get cell) old b new
-get_blocked l cell old new b here busy = is_stopped (Get cell) old old new new l b (GoesOn-none old) refl busy
-    (busy_again l old new b busy) (commit_needs-cell old.config.world.decls cell l here)
-  where
-    busy_again : (l : ℕ) (old new : SeatState) (b : Busy) → IsBusy l old b new → new ≡ record new { held = old.held }
-    busy_again l old new b busy = ap (λ (h : List (ℕ × ℕ)). record new { held = h }) (ap (λ (s : SeatState). s.held) busy.conflicts)
+-- the latch of the cell wasn't taken
+pub get_unmade : (old new : SeatState) → IsOnlyNoted old new → IsGivenUp old new
+get_unmade old new noted = subst (IsGivenUp old) (sym noted) (record { rest = refl; grown = Extends-none (IsOutside old.first old.last) old.seen })
+
+-- a conflict is noted with the latch of the cell alone
+pub get_notes-cell : (w : Bool) (l : ℕ) (cell : Cell) (stop : List (ℕ × ℕ)) (old new : SeatState) → l ≡ latch_of_cell old.config.world.decls cell
+    → Notes w (λ k. k == l) stop old new → Notes w (commit_needs old.config.world.decls (Get cell)) stop old new
+get_notes-cell w l cell stop old new here n =
+    Notes-weaker w (λ k. k == l) (commit_needs old.config.world.decls (Get cell)) stop old new
+    (λ k is. commit_needs-cell old.config.world.decls cell l k here is) n
 
 module _ {C : Type 0} (content : C → Contents) (sound : Decls → ℕ → C
-    → Type 0) (l : ℕ) (turn : Turn) (cell : Cell) (old mid : SeatState) (c : C) (got : IsTaken (GoodAt content sound) l turn.session old (Fiber c) mid)
-    (free : old.held
-    ≡ []) (here : l ≡ latch_of_cell old.config.world.decls cell) where
+    → Type 0) (l : ℕ) (turn : Turn) (cell : Cell) (old : SeatState) (m : List (ℕ × ℕ)) (mid : SeatState) (c : C)
+    (got : IsTaken (GoodAt content sound) l turn.session (record old { conflicts = m }) (Fiber c) mid)
+    (free : old.held ≡ []) (here : l ≡ latch_of_cell old.config.world.decls cell) where
   abbrev e : Entry
   e = entry_at turn (Get cell)
 
@@ -52,6 +55,12 @@ module _ {C : Type 0} (content : C → Contents) (sound : Decls → ℕ → C
 
   mid_good : GoodAt content sound mid.config mid.seen l (Fiber c)
   mid_good = subst (λ (x : TableConfig). GoodAt content sound x mid.seen l (Fiber c)) (sym mid_config) got.fits
+
+  mid_grown : Extends (IsForeign old) old.seen mid.seen
+  mid_grown = Extends-conflicts old m old.seen mid.seen got.grown
+
+  mid_goes : GoesOn old mid
+  mid_goes = GoesOn-seen old mid ((l, turn.session) ∷ old.held) m mid.seen got.rest mid_grown
 
   is_here : (latch_of_cell mid.config.world.decls cell == l) ≡ true
   is_here = same_number (latch_of_cell mid.config.world.decls cell) l (ap (λ (x : TableConfig). latch_of_cell x.world.decls cell) mid_config ∙ sym here)
@@ -72,7 +81,7 @@ module _ {C : Type 0} (content : C → Contents) (sound : Decls → ℕ → C
   -- with the fiber taken, the entry may be entered
   pub get_can_enter : CanMake e old → l < old.config.end → CanEnter e mid
   get_can_enter can b = record {
-    next = IsNext-taken turn old mid ((l, turn.session) ∷ old.held) old.conflicts got.rest got.grown can.next;
+    next = IsNext-taken turn old mid ((l, turn.session) ∷ old.held) m got.rest mid_grown can.next;
     valid = subst (λ (x : TableConfig). IsTrue (call_is_valid x.world.decls (Get cell))) (sym mid_config) can.valid;
     held = held_here;
     below = below_end b;
@@ -82,15 +91,28 @@ module _ {C : Type 0} (content : C → Contents) (sound : Decls → ℕ → C
   behind_one late e = ap (λ (h : List (ℕ × ℕ)). record late { held = drop 1 h }) (e ∙ mid_held)
       ∙ ap (λ (h : List (ℕ × ℕ)). record late { held = h }) (sym free)
 
-  -- the journal's latch was held by another
-  pub get_stopped : (late new : SeatState) (j : ℕ) (b : Busy) → j ≡ latch_count old.config.world.decls → IsBusy j mid b late → new ≡ without_top late
-      → IsStopped (Get cell) old b new
-  get_stopped late new j b journal busy last = is_stopped (Get cell) old mid late new j b
-      (GoesOn-seen old mid ((l, turn.session) ∷ old.held) old.conflicts mid.seen got.rest got.grown)
-      (ap (λ (s : SeatState). s.conflicts) got.rest)
-      busy
-      (last ∙ behind_one late (ap (λ (s : SeatState). s.held) busy.conflicts))
-      (commit_needs-journal old.config.world.decls (Get cell) j journal)
+  -- the journal's latch wasn't taken, and the cell's was given back
+  pub get_given_up : (late new : SeatState) → IsOnlyNoted mid late → new ≡ without_top late → IsGivenUp old new
+  get_given_up late new noted last =
+      let n : new ≡ record late { held = old.held } = last ∙ behind_one late (ap (λ (s : SeatState). s.held) noted) in
+      let r : new ≡ record mid { held = []; conflicts = late.conflicts } = n ∙ ap (λ (s : SeatState). record s { held = old.held }) noted
+      ∙ ap (λ (h : List (ℕ × ℕ)). record mid { held = h; conflicts = late.conflicts }) free in
+      IsGivenUp-noted old mid new mid_goes free
+      (r ∙ ap (λ (k : List (ℕ × ℕ)). record mid { held = []; conflicts = k }) (sym (ap (λ (s : SeatState). s.conflicts) r)))
+
+  -- then the store is good where it was
+  pub get_still_good : (late : SeatState) → IsOnlyNoted mid late → GoodAt content sound late.config late.seen l (Fiber c)
+  get_still_good late noted = subst (λ (s : SeatState). GoodAt content sound s.config s.seen l (Fiber c)) (sym noted) mid_good
+
+  -- conflicts are noted with the cell's latch, and then with the journal's
+  pub get_notes : (w : Bool) (end : ℕ) (stop : List (ℕ × ℕ)) (late new : SeatState) → end ≡ latch_count old.config.world.decls
+      → Notes w (λ k. k == l) [] old mid → Notes w (λ k. k == end) stop mid late → new ≡ without_top late
+      → Notes w (commit_needs old.config.world.decls (Get cell)) stop old new
+  get_notes w end stop late new journal first second last =
+      Notes-later w (commit_needs old.config.world.decls (Get cell)) stop old late new (ap (λ (s : SeatState). s.conflicts) last)
+      (Notes-more w (λ k. k == l) (λ k. k == end) (commit_needs old.config.world.decls (Get cell)) stop old mid late mid_goes
+      (λ k is. commit_needs-cell old.config.world.decls cell l k here is)
+      (λ k is. commit_needs-journal old.config.world.decls (Get cell) k (number_is k end is ∙ journal)) first second)
 
   -- behind the entry the store is still good
   pub get_good : (late : SeatState) → HasEntered e mid late → GoodAt content sound late.config late.seen l (Fiber c)
@@ -103,6 +125,6 @@ module _ {C : Type 0} (content : C → Contents) (sound : Decls → ℕ → C
       → HasMade e (Value value) old new
   get_made late new value entered last is =
       let g = good_before content sound e mid late entered l turn.session c (subst (In (l, turn.session)) (sym mid_held) (inl refl)) mid_good in
-      has_made e (Value value) old mid late new (GoesOn-seen old mid ((l, turn.session) ∷ old.held) old.conflicts mid.seen got.rest got.grown) entered
+      has_made e (Value value) old mid late new mid_goes entered
       (last ∙ behind_one late (entered_held content sound e mid late entered))
       (ap (λ (v : ℕ). Value v) (sym (is ∙ good_number content sound mid.config entered.before l cell.tensor cell.at c g is_here)))

@@ -1,5 +1,5 @@
 -- A call that needs several fibers, once its latches are taken.
-use Rattle.std.proofs.Common.{◌≡◌, ℕ, List, [], IsTrue, sym, ap, ◌∙◌, subst}
+use Rattle.std.proofs.Common.{◌≡◌, ℕ, ◌==◌, Bool, List, [], IsTrue, sym, ap, ◌∙◌, subst}
 use Rattle.dt_model.specs.declared.calls.Call.{Call}
 use Rattle.dt_model.specs.declared.calls.Call.TheVariants.{Batch, Query}
 use Rattle.dt_model.specs.declared.calls.Entry.{Entry}
@@ -13,23 +13,56 @@ use Rattle.dt_model.specs.Latches.{needs}
 use Rattle.dt_model.specs.Runs.{contents_after, after_call, reply_to, restricted_to}
 use Rattle.dt_model.specs.Statements.{answer}
 use Rattle.dt_model.specs.Tensors.{latch_count}
+use Rattle.commit_core.specs.Machine.{commit_needs}
 use Rattle.dt_model.specs.Verdicts.{call_is_valid}
 use Rattle.dt_model.proofs.RunsLemmas.{contents_after-push}
 use Rattle.fiber_latch.specs.declared.view.TableConfig.{TableConfig}
-use Rattle.fiber_latch.specs.declared.rule.Busy.{Busy}
 use Rattle.fiber_latch.specs.declared.rule.Kept.TheVariants.{Fiber}
 use Rattle.fiber_latch.specs.Rule.{GoodAt}
 use Rattle.fiber_latch.specs.Views.{In}
-use Rattle.fiber_latch.specs.Seats.{SeatState, IsBusy}
+use Rattle.fiber_latch.specs.Seats.{SeatState}
 use Rattle.sessions.specs.declared.hands.Hand.{Hand}
-use Rattle.sessions.specs.declared.hands.Fault.TheVariants.{Held}
-use Rattle.sessions.specs.Calling.{CanMake, GoesOn, HasMade, IsStopped}
+use Rattle.sessions.specs.Calling.{CanMake, GoesOn, HasMade}
 use Rattle.sessions.specs.Entering.{CanEnter, HasEntered}
-use Rattle.sessions.specs.Holding.{Holds, HoldsBehind, IsReady, IsDue}
+use Rattle.sessions.specs.Holding.{Holds, HoldsBehind, IsOnlyNoted, IsReady, IsDue}
+use Rattle.sessions.specs.Noting.{Notes}
 use Rattle.sessions.proofs.CallingLemmas.{IsNext-goes}
 use Rattle.sessions.proofs.EnteringLemmas.{has_made, good_before, good_behind}
-use Rattle.sessions.proofs.HoldingLemmas.{Holds-failed, in_listed, of_listed}
-use Rattle.sessions.proofs.StoppedCalls.{is_stopped, commit_needs-journal}
+use Rattle.sessions.proofs.HoldingLemmas.{Holds-before, IsAsBefore-noted, in_listed, of_listed}
+use Rattle.sessions.proofs.NotingLemmas.{Notes-later, Notes-more, commit_needs-own, commit_needs-journal, number_is}
+
+-- ---- where the journal's latch was tried
+
+-- a take that was stopped leaves what is held
+pub Holds-noted : {C : Type 0} (content : C → Contents) (sound : Decls → ℕ → C → Type 0) (s : ℕ) (mid late : SeatState) (hands : List (Hand C))
+    → Holds content sound s mid hands → IsOnlyNoted mid late → Holds content sound s late hands
+Holds-noted content sound s mid late hands holds noted = Holds-before content sound s mid hands holds late (IsAsBefore-noted mid late noted)
+
+-- what was held was given back
+pub noted_given : (mid late new : SeatState) → IsOnlyNoted mid late → new ≡ record late { held = [] } → new
+    ≡ record mid { held = []; conflicts = new.conflicts }
+noted_given mid late new noted last =
+    let n : new ≡ record mid { held = []; conflicts = late.conflicts } = last ∙ ap (λ (s : SeatState). record s { held = [] }) noted in
+    n ∙ ap (λ (m : List (ℕ × ℕ)). record mid { held = []; conflicts = m }) (sym (ap (λ (s : SeatState). s.conflicts) n))
+
+-- a call notes conflicts with latches that its commit needs: first its own, and then the journal's
+pub Notes-commit : (w : Bool) (call : Call) (stop : List (ℕ × ℕ)) (end : ℕ) (old mid new : SeatState) → GoesOn old mid
+    → end ≡ latch_count old.config.world.decls
+    → Notes w (needs old.config.world.decls call) [] old mid → Notes w (λ l. l == end) stop mid new
+    → Notes w (commit_needs old.config.world.decls call) stop old new
+Notes-commit w call stop end old mid new goes journal own last =
+    Notes-more w (needs old.config.world.decls call) (λ l. l == end) (commit_needs old.config.world.decls call) stop old mid new goes
+    (λ l n. commit_needs-own old.config.world.decls call l n)
+    (λ l n. commit_needs-journal old.config.world.decls call l (number_is l end n ∙ journal)) own last
+
+-- nothing was noted since, and an entry left what the table was opened for
+pub Notes-made : (w : Bool) (call : Call) (stop : List (ℕ × ℕ)) (end : ℕ) (old mid late new : SeatState) → GoesOn old mid
+    → end ≡ latch_count old.config.world.decls → Notes w (needs old.config.world.decls call) [] old mid → Notes w (λ l. l == end) stop mid late
+    → new.conflicts ≡ late.conflicts → Notes w (commit_needs old.config.world.decls call) stop old new
+Notes-made w call stop end old mid late new goes journal own last same =
+    Notes-later w (commit_needs old.config.world.decls call) stop old late new same (Notes-commit w call stop end old mid late goes journal own last)
+
+-- ---- once the latches are taken
 
 module _ {C : Type 0} (content : C → Contents) (sound : Decls → ℕ → C → Type 0) (due : C
     → List Update) (e : Entry) (old mid : SeatState) (hands : List (Hand C)) (goes : GoesOn old mid) (holds : Holds content sound e.turn.session mid hands)
@@ -48,16 +81,6 @@ module _ {C : Type 0} (content : C → Contents) (sound : Decls → ℕ → C �
   held_each l n =
       let h = of_listed e.turn.session (l, e.turn.session) hands (subst (In (l, e.turn.session)) holds.held (ready.all l n)) in
       (h.0, h.1.0, sym (ap (λ (p : ℕ × ℕ). p.0) h.1.1))
-
-  -- the journal's latch was held by another: what was taken is still in hand
-  pub still_holds : (j : ℕ) (b : Busy) (late : SeatState) → IsBusy j mid b late → Holds content sound e.turn.session late hands
-  still_holds j b late busy = Holds-failed content sound e.turn.session mid hands holds j (Held b) late busy
-
-  -- and once it is given back, the call was stopped
-  pub held_stopped : (j : ℕ) (b : Busy) (late new : SeatState) → old.held ≡ [] → mid.conflicts ≡ old.conflicts → j ≡ latch_count old.config.world.decls
-      → IsBusy j mid b late → new ≡ record late { held = [] } → IsStopped e.call old b new
-  held_stopped j b late new idle same journal busy last = is_stopped e.call old mid late new j b goes same busy
-      (last ∙ ap (λ (h : List (ℕ × ℕ)). record late { held = h }) (sym idle)) (commit_needs-journal old.config.world.decls e.call j journal)
 
   module _ (late : SeatState) (entered : HasEntered e mid late) where
     late_config : late.config ≡ mid.config

@@ -1,6 +1,6 @@
 -- The tables of a query over the stores that are held: one more, and what they are to an answer.
-use Rattle.std.proofs.Common.{◌≡◌, ◌≢◌, ◌<◌, ℕ, ◌++◌, Bool, true, false, cond, List, [], ◌∷◌, refl, ap, arith, sym, ◌∙◌, subst, Option, Some, None, length, get_or}
-use Rattle.std.specs.Prelude.{◌||◌, nat_eq, slice_get, is_none}
+use Rattle.std.proofs.Common.{◌≡◌, ◌≢◌, ◌<◌, ◌+◌, ℕ, ◌++◌, Bool, true, false, cond, List, [], ◌∷◌, refl, ap, arith, sym, ◌∙◌, subst, Option, Some, None, length, get_or, IsTrue}
+use Rattle.std.specs.Prelude.{◌||◌, nat_eq, nat_le, nat_lt, slice_get, is_none}
 use Rattle.std.proofs.lemmas.Bool.Decides.{nat_tests}
 use Rattle.dt_model.specs.declared.calls.Call.TheVariants.{Query}
 use Rattle.dt_model.specs.declared.calls.Entry.{Entry}
@@ -11,7 +11,8 @@ use Rattle.dt_model.specs.Contents.{Contents}
 use Rattle.dt_model.specs.Latches.{is_latch_of, needs}
 use Rattle.dt_model.specs.Runs.{contents_after}
 use Rattle.dt_model.specs.Statements.{accesses}
-use Rattle.dt_model.specs.Tensors.{latch_count, tensor_named}
+use Rattle.dt_model.specs.Tensors.{first_latch, latch_count, latches_of_tensor, tensor_named}
+use Rattle.dt_model.proofs.Booleans.{both_true}
 use Rattle.commit_core.proofs.NeededLatches.{element}
 use Rattle.std.proofs.lemmas.Option.{get_or_from_slice_get}
 use Rattle.fiber_latch.specs.Views.{In}
@@ -21,8 +22,9 @@ use Rattle.slow_eval.specs.Given.{AreTablesOf, has_entry}
 use Rattle.slow_eval.proofs.GivenLemmas.{rows_for-added, has_entry-added}
 use Rattle.sessions.specs.declared.hands.Hand.{Hand}
 use Rattle.sessions.specs.Closing.{AreStoresAfter}
-use Rattle.sessions.specs.HeldTables.{AddsFiber, AddsHeld, AreFibersOf, AreHeldTables, HoldsEach, IsFiberOf, IsHeldTable, IsStoreAt}
+use Rattle.sessions.specs.HeldTables.{AddsFiber, AddsStore, AreFibersFor, AreFibersOf, AreHeldTables, HoldsEach, IsFiberOf, IsHeldTable, IsStoreAt}
 use Rattle.sessions.specs.QueryTables.{HaveTables}
+use Rattle.sessions.proofs.LatchNumbers.{latches_below}
 use Rattle.sessions.proofs.NeedingLemmas.{any_at}
 
 -- ---- one fiber more
@@ -33,14 +35,20 @@ pub IsFiberOf-at : (d : Decls) (m : Contents) (hands : List (Hand StoreState)) (
 IsFiberOf-at d m hands l s are at = subst (λ (p : ℕ × StoreState). IsFiberOf d m p.0 p.1) (λ i. (at.2 i, at.3 i)) (are at.0 at.1)
 
 -- a store that was found and added
-pub AddsHeld-some : (hands : List (Hand StoreState)) (l : ℕ) (old new : List (List ℕ × ℕ)) (s : StoreState) → IsStoreAt hands l s → AddsFiber old new s
-    → AddsHeld hands l old new
-AddsHeld-some hands l old new s at adds d m are there = (s, IsFiberOf-at d m hands l s are at, adds)
+pub AddsStore-some : (is : StoreState → Type 0) (old new : List (List ℕ × ℕ)) (s : StoreState) → is s → AddsFiber old new s → AddsStore is old new
+AddsStore-some is old new s here adds there = (s, here, adds)
 
--- no store was found, although one is there
-pub AddsHeld-none : (hands : List (Hand StoreState)) (l : ℕ) (old new : List (List ℕ × ℕ)) → ((h : Hand StoreState) → In h hands → h.latch ≢ l)
-    → AddsHeld hands l old new
-AddsHeld-none hands l old new none d m are there = absurd (none there.0 there.1 there.2)
+-- no store was found, although there is one
+pub AddsStore-none : (is : StoreState → Type 0) (old new : List (List ℕ × ℕ)) → ((s : StoreState) → ¬ is s) → AddsStore is old new
+AddsStore-none is old new none there = absurd (none there.0 there.1)
+
+-- the stores that are held are those of a tensor, if all its latches are held
+pub AreFibersFor-held : (d : Decls) (m : Contents) (hands : List (Hand StoreState)) (t : ℕ) → AreFibersOf d m hands
+    → HoldsEach (λ l. is_latch_of d l (Some t)) hands → AreFibersFor (λ l s. IsStoreAt hands l s) d m t
+AreFibersFor-held d m hands t are each = record {
+  there = λ l own. let h = each l own in (h.0.store, (h.0, h.1, h.2, refl));
+  fiber = λ l s own at. IsFiberOf-at d m hands l s are at;
+}
 
 -- ---- one table more
 
@@ -101,3 +109,24 @@ closed_store d w seen stores l same are below =
     let many : length stores ≡ latch_count d = are.2.count ∙ ap latch_count same in
     let x = element stores l (omega (arith, many, below)) in
     (x.0, x.1, IsFiberOf-closed d w seen stores l x.0 same are (omega (arith, many, below)) (get_or_from_slice_get stores l x.0 x.0 x.1))
+
+-- the stores of a closed run are those of each tensor
+pub AreFibersFor-closed : (d : Decls) (w : World) (seen : List Entry) (stores : List StoreState) (t : ℕ) → t < length d.tensors → w.decls ≡ d
+    → AreStoresAfter w seen stores → AreFibersFor (λ l s. slice_get stores l ≡ Some s) d (contents_after w seen) t
+AreFibersFor-closed d w seen stores t declared same are = record {
+  there = λ l own. let s = closed_store d w seen stores l same are (below l own) in (s.0, s.1);
+  fiber = λ l s own look.
+      let many : length stores ≡ latch_count d = are.2.count ∙ ap latch_count same in
+      let b = below l own in
+      IsFiberOf-closed d w seen stores l s same are (omega (arith, many, b)) (get_or_from_slice_get stores l s s look);
+}
+  where
+    lt_of : (a b : ℕ) → nat_lt a b ≡ true → a < b
+    lt_of a b e = grind (arith, nat_tests)
+
+    below : (l : ℕ) → IsTrue (is_latch_of d l (Some t)) → l < latch_count d
+    below l own =
+        let high = lt_of l (first_latch d t + latches_of_tensor d t) (both_true (nat_le (first_latch d t) l) (nat_lt l (first_latch d t
+        + latches_of_tensor d t)) own).1 in
+        let all = latches_below d t declared in
+        omega (arith, high, all)

@@ -18,12 +18,10 @@ use Rattle.fiber_latch.proofs.ViewsLemmas.{in_append, in_left, in_right}
 use Rattle.fiber_latch.proofs.SeatsLemmas.{good_stays}
 use Rattle.fiber_store.specs.Stores.{own}
 use Rattle.sessions.specs.declared.hands.Hand.{Hand}
-use Rattle.sessions.specs.declared.hands.Fault.{Fault}
-use Rattle.sessions.specs.declared.hands.Fault.TheVariants.{Held, Full}
 use Rattle.sessions.specs.Calling.{GoesOn}
 use Rattle.sessions.specs.Entering.{IsForeign, IsAboveHeld}
-use Rattle.sessions.specs.Holding.{listed, Holds, AreDue, IsDue, IsReady, HasFailed, IsAsBefore}
-use Rattle.sessions.proofs.CallingLemmas.{GoesOn-more, GoesOn-by, GoesOn-seen, Extends-conflicts}
+use Rattle.sessions.specs.Holding.{listed, Holds, AreDue, IsDue, IsReady, IsAsBefore, IsOnlyNoted}
+use Rattle.sessions.proofs.CallingLemmas.{GoesOn-more, GoesOn-none, GoesOn-by, GoesOn-seen, Extends-none, Extends-conflicts}
 use Rattle.sessions.proofs.OwnUpdates.{own_restricted}
 
 module _ {C : Type 0} (s : ℕ) where
@@ -93,6 +91,17 @@ module _ {C : Type 0} (content : C → Contents) (sound : Decls → ℕ → C �
     pub under : (h : Hand C) → In h hands → h.latch < from
     pub done : (k : ℕ) → k < from → IsTrue (needs seat.config.world.decls call k) → In (k, s) seat.held
     pub within : from ≤ seat.config.end
+
+  -- nothing is in hand yet
+  pub HasTakenBelow-none : (hands : List (Hand C)) → old.held ≡ [] → hands ≡ [] → HasTakenBelow 0 old hands
+  HasTakenBelow-none hands idle empty = subst (HasTakenBelow 0 old) (sym empty) (record {
+    goes = GoesOn-none old;
+    holds = record { held = idle; good = λ h i. absurd i };
+    dues = λ h i. absurd i;
+    under = λ h i. absurd i;
+    done = λ k b n. absurd (omega arith);
+    within = omega arith;
+  })
 
   -- whatever was met since
   pub HasTakenBelow-conflicts : (from : ℕ) (seat : SeatState) (hands : List (Hand C)) (m : List (ℕ × ℕ)) → HasTakenBelow from seat hands
@@ -182,25 +191,17 @@ module _ {C : Type 0} (content : C → Contents) (sound : Decls → ℕ → C
         (holds.good h i);
   }
 
-  -- a take that was in vain
-  pub Holds-failed : (l : ℕ) (f : Fault) (new : SeatState) → HasFailed l old f new → Holds content sound s new hands
-  Holds-failed l (Held b) new failed =
-      subst (λ (x : SeatState). Holds content sound s x hands) (sym failed.conflicts) (record { held = holds.held; good = holds.good })
-  Holds-failed l Full new failed =
-      subst (λ (x : SeatState). Holds content sound s x hands) (sym failed.0) (Holds-seen new.seen old.conflicts failed.1)
-
-  -- a take that ran out of memory
+  -- a take that was stopped or ran out of memory
   pub Holds-before : (new : SeatState) → IsAsBefore old new → Holds content sound s new hands
   Holds-before new same = subst (λ (x : SeatState). Holds content sound s x hands) (sym same.rest) (Holds-seen new.seen new.conflicts same.grown)
 
--- a take that was in vain is a step
-pub GoesOn-failed : (l : ℕ) (f : Fault) (old new : SeatState) → HasFailed l old f new → GoesOn old new
-GoesOn-failed l (Held b) old new failed = GoesOn-by old new old.held (old.conflicts ++ (l, b.holder) ∷ []) failed.conflicts
-GoesOn-failed l Full old new failed = GoesOn-seen old new old.held old.conflicts new.seen failed.0 failed.1
-
--- so is one that ran out of memory
+-- a take that was stopped or ran out of memory is a step
 pub GoesOn-before : (old new : SeatState) → IsAsBefore old new → GoesOn old new
 GoesOn-before old new same = GoesOn-seen old new old.held new.conflicts new.seen same.rest same.grown
+
+-- nothing changed, but that conflicts were noted
+pub IsAsBefore-noted : (old new : SeatState) → IsOnlyNoted old new → IsAsBefore old new
+IsAsBefore-noted old new same = subst (IsAsBefore old) (sym same) (record { rest = refl; grown = Extends-none (IsForeign old) old.seen })
 
 -- a latch was taken, perhaps after waiting, and given back
 pub IsAsBefore-again : (old mid new : SeatState) (m : List (ℕ × ℕ)) (l s : ℕ) → mid

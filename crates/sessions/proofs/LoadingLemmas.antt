@@ -38,7 +38,7 @@ use Rattle.sessions.specs.QueryTables.{AreNonzerosOf}
 use Rattle.sessions.specs.InRange.{IsInRange}
 use Rattle.sessions.proofs.FiberTables.{some_at}
 use Rattle.sessions.proofs.LatchNumbers.{one_tensor}
-use Rattle.sessions.proofs.PairsLemmas.{sum_at-without_zeros}
+use Rattle.sums.proofs.AscendingLemmas.{sum_by-without_zeros}
 
 -- ---- ascending rows have ascending latches
 
@@ -301,7 +301,7 @@ AreRowsOf-loaded d m t cells pairs in_range up is sums are = record {
   in_range = subst (λ ps. All (λ (p : List ℕ × ℕ). all_in_range (dims_of d t) p.0 ≡ true) ps) (sym (are d in_range))
       (All-weaker (λ (p : List ℕ × ℕ). m t p.0 ≢ 0) (λ p. all_in_range (dims_of d t) p.0
       ≡ true) (λ p some. within p.0 some) (nonzeros (m t) (all_below (dims_of d t))) (some_at (m t) (all_below (dims_of d t))));
-  total = λ c. ap (λ ps. total_at ps c) is ∙ ap (λ n. n % 2 ^ 64) (sum_at-without_zeros c cells) ∙ sums c;
+  total = λ c. ap (λ ps. total_at ps c) is ∙ ap (λ n. n % 2 ^ 64) (sum_by-without_zeros c cells) ∙ sums c;
 }
   where
     within : (c : List ℕ) → m t c ≢ 0 → all_in_range (dims_of d t) c ≡ true

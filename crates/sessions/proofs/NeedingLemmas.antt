@@ -1,144 +1,212 @@
--- The least latch that a call needs, update by update and access by access.
-use Rattle.std.proofs.Common.{◌≡◌, ◌≤◌, ◌<◌, ◌+◌, ◌||◌, ℕ, Bool, true, false, take, length, List, [], ◌∷◌, ◌++◌, Option, Some, None, IfSome, get_or, sym, refl, ap, ◌∙◌, subst, ⊎_elim, arith, zero, suc}
-use Rattle.std.specs.Prelude.{◌&&◌, nat_le, nat_lt, sum_by}
-use Rattle.std.specs.List.{list_any}
-use Rattle.std.proofs.lemmas.List.{take_more}
-use Rattle.sums.proofs.NumberTests.{or_cases, or_left, or_right}
-use Rattle.dt_model.specs.declared.statements.Expr.{Expr}
-use Rattle.dt_model.specs.declared.statements.Expr.TheVariants.{Plus, Minus, Times, Negate}
+-- The latches of a call as ranges, and the search for the least of them.
+use Rattle.std.proofs.Common.{◌≡◌, ◌≤◌, ◌<◌, ◌+◌, ◌||◌, ◌==◌, ℕ, Bool, true, false, length, List, [], ◌∷◌, ◌++◌, Option, Some, None, IfSome, get_or, drop, sym, refl, ap, ◌∙◌, ⊎_elim, arith, zero, suc, map, append_assoc, length-append}
+use Rattle.std.specs.Prelude.{◌&&◌, nat_le, nat_lt}
+use Rattle.std.specs.List.{list_any, flat_map}
+use Rattle.std.proofs.lemmas.Bool.{cases_lt}
+use Rattle.std.proofs.lemmas.Bool.Decides.{nat_tests}
+use Rattle.std.proofs.lemmas.Grind.{flat_map-append}
+use Rattle.std.proofs.lemmas.List.{at_drop_more, drop_all, get_or-drop, get_or_default, length-drop}
+use Rattle.std.proofs.lemmas.List.Concat.{flat_map-cons}
+use Rattle.std.proofs.lemmas.List.Folds.{list_any-append}
+use Rattle.sums.proofs.NumberTests.{or_cases, or_left}
+use Rattle.dt_model.specs.declared.calls.Call.{Call}
+use Rattle.dt_model.specs.declared.calls.Call.TheVariants.{Get, Batch, Query}
+use Rattle.dt_model.specs.declared.calls.Update.{Update}
 use Rattle.dt_model.specs.declared.declared_tensors.Decls.{Decls}
-use Rattle.dt_model.specs.Latches.{is_latch_of}
+use Rattle.dt_model.specs.declared.statements.Expr.{Expr}
+use Rattle.dt_model.specs.Latches.{is_latch_of, latch_of_cell, needs}
 use Rattle.dt_model.specs.Statements.{accesses}
-use Rattle.dt_model.specs.declared.declared_tensors.TensorDecl.{TensorDecl}
-use Rattle.dt_model.specs.Tensors.{first_latch, latch_count, latches_of_tensor, tensor_named}
-use Rattle.commit_core.proofs.Expressions.{any_of-Plus, any_of-Minus, any_of-Times, any_of-Negate}
-use Rattle.sessions.proofs.LatchNumbers.{first_latch-sum, latches_below, latches_of_tensor-at}
-use Rattle.sessions.specs.Needing.{IsLeastFrom, IsLesser}
-
--- ---- numbers by themselves
-
--- none of these latches is needed
-pub IsLeastFrom-none : (f : ℕ → Bool) (end from : ℕ) → ((k : ℕ) → from ≤ k → f k ≡ true → ⊥) → IsLeastFrom f end from None
-IsLeastFrom-none f end from none = record { some_latch = tt; least = λ k low h. none k low h }
-
--- this latch is the least
-pub IsLeastFrom-some : (f : ℕ → Bool) (end from l : ℕ) → from ≤ l → l < end → f l ≡ true → ((k : ℕ) → from ≤ k → f k ≡ true → l ≤ k)
-    → IsLeastFrom f end from (Some l)
-IsLeastFrom-some f end from l low high here least = record { some_latch = (low, high, here); least = λ k b h. least k b h }
-
--- tests that are equal
-pub IsLeastFrom-same : (f g : ℕ → Bool) (end from : ℕ) (found : Option ℕ) → ((k : ℕ) → f k ≡ g k) → IsLeastFrom f end from found → IsLeastFrom g end from found
-IsLeastFrom-same f g end from None same so = record { some_latch = tt; least = λ k b h. so.least k b (same k ∙ h) }
-IsLeastFrom-same f g end from (Some l) same so = record {
-  some_latch = (so.some_latch.0, so.some_latch.1, sym (same l) ∙ so.some_latch.2);
-  least = λ k b h. so.least k b (same k ∙ h);
-}
-
-some_of : (P : ℕ → Type 0) (a found : Option ℕ) → found ≡ a → IfSome a P → IfSome found P
-some_of P a found e h = subst (λ (o : Option ℕ). IfSome o P) (sym e) h
-
-weaker : (P Q : ℕ → Type 0) (o : Option ℕ) → ((n : ℕ) → P n → Q n) → IfSome o P → IfSome o Q
-weaker P Q None f h = tt
-weaker P Q (Some n) f h = f n h
-
--- the lesser of two findings is the least of which either test holds
-pub IsLeastFrom-lesser : (f g : ℕ → Bool) (end from : ℕ) (a b found : Option ℕ) → IsLeastFrom f end from a → IsLeastFrom g end from b → IsLesser a b found
-    → IsLeastFrom (λ k. f k || g k) end from found
-IsLeastFrom-lesser f g end from a b found first second lesser = record {
-  some_latch = ⊎_elim
-      (λ (e : found ≡ a). some_of (λ (l : ℕ). (from ≤ l) × (l < end) × ((f l || g l) ≡ true)) a found e
-      (weaker (λ (l : ℕ). (from ≤ l) × (l < end) × (f l ≡ true)) (λ (l : ℕ). (from ≤ l) × (l < end) × ((f l || g l)
-      ≡ true)) a (λ n h. (h.0, h.1, or_left (f n) (g n) h.2)) first.some_latch))
-      (λ (e : found ≡ b). some_of (λ (l : ℕ). (from ≤ l) × (l < end) × ((f l || g l) ≡ true)) b found e
-      (weaker (λ (l : ℕ). (from ≤ l) × (l < end) × (g l ≡ true)) (λ (l : ℕ). (from ≤ l) × (l < end) × ((f l || g l)
-      ≡ true)) b (λ n h. (h.0, h.1, or_right (f n) (g n) h.2)) second.some_latch))
-      lesser.one;
-  least = λ k low h. ⊎_elim (λ (e : f k ≡ true). lesser.first k (first.least k low e)) (λ (e : g k ≡ true). lesser.second k (second.least k low e))
-      (or_cases (f k) (g k) h);
-}
+use Rattle.dt_model.specs.Tensors.{first_latch, latches_of_tensor, tensor_named}
+use Rattle.dt_model.specs.Verdicts.{update_cell}
+use Rattle.dt_model.proofs.Booleans.{both_true}
+use Rattle.sessions.specs.declared.needing.LatchRange.{LatchRange}
+use Rattle.sessions.specs.Needing.{AreAscending, IsLeastFrom, access_ranges, call_ranges, covers, is_in, one_latch, tensor_ranges}
 
 -- ---- lists
-
-any_append : {X : Type 0} (p : X → Bool) (xs ys : List X) → list_any p (xs ++ ys) ≡ (list_any p xs || list_any p ys)
-any_append p [] ys = refl
-any_append p (x ∷ xs) ys = go (p x) (any_append p xs ys)
-  where
-    go : (b : Bool) → list_any p (xs ++ ys) ≡ (list_any p xs || list_any p ys) → (b || list_any p (xs ++ ys)) ≡ ((b || list_any p xs) || list_any p ys)
-    go true e = refl
-    go false e = e
 
 or_nothing : (b : Bool) → (b || false) ≡ b
 or_nothing true = refl
 or_nothing false = refl
 
--- a test over one element more
-pub any_take_more : {X : Type 0} (p : X → Bool) (xs : List X) (i : ℕ) (x : X) → i < length xs → x ≡ get_or xs i x
-    → list_any p (take (i + 1) xs) ≡ (list_any p (take i xs) || p x)
-any_take_more p xs i x l is =
-    ap (list_any p) (take_more xs i x l ∙ ap (λ y. take i xs ++ y ∷ []) (sym is)) ∙ any_append p (take i xs) (x ∷ [])
-    ∙ ap (λ b. list_any p (take i xs) || b) (or_nothing (p x))
-
 -- an element passes, so one does
 pub any_at : {X : Type 0} (f : X → Bool) (xs : List X) (i : ℕ) (d : X) → i < length xs → f (get_or xs i d) ≡ true → list_any f xs ≡ true
 any_at f [] i d b e = absurd (omega arith)
 any_at f (x ∷ xs) zero d b e = or_left (f x) (list_any f xs) e
-any_at f (x ∷ xs) (suc i) d b e = or_right (f x) (list_any f xs) (any_at f xs i d (omega arith) e)
+any_at f (x ∷ xs) (suc i) d b e = ap (λ r. f x || r) (any_at f xs i d (omega arith) e) ∙ or_true (f x)
+  where
+    or_true : (b : Bool) → (b || true) ≡ true
+    or_true true = refl
+    or_true false = refl
 
--- ---- expressions
+-- ---- the ranges of a call
 
--- whether latch k is one of the tensors that an expression names
-abbrev pub names_latch : Decls → Expr → ℕ → Bool
-names_latch d e k = list_any (λ a. is_latch_of d k (tensor_named d a.0)) (accesses e)
+in_one : (a l : ℕ) → (nat_le a l && nat_lt l (a + 1)) ≡ (a == l)
+in_one a l = go (nat_le a l) (nat_lt l (a + 1)) (a == l) refl refl refl
+  where
+    go : (p q r : Bool) → nat_le a l ≡ p → nat_lt l (a + 1) ≡ q → (a == l) ≡ r → (p && q) ≡ r
+    go true true true e f g = refl
+    go true true false e f g = grind (arith, nat_tests)
+    go true false true e f g = grind (arith, nat_tests)
+    go true false false e f g = refl
+    go false true true e f g = grind (arith, nat_tests)
+    go false true false e f g = refl
+    go false false true e f g = grind (arith, nat_tests)
+    go false false false e f g = refl
 
--- the two sides of an expression, one after the other
-pub IsLeastFrom-sides : (d : Decls) (whole a b x y : Expr) (from : ℕ) (first second found : Option ℕ)
-    → ((k : ℕ) → names_latch d whole k ≡ (names_latch d a k || names_latch d b k)) → x ≡ a → y ≡ b
-    → IsLeastFrom (names_latch d x) (latch_count d) from first → IsLeastFrom (names_latch d y) (latch_count d) from second → IsLesser first second found
-    → IsLeastFrom (names_latch d whole) (latch_count d) from found
-IsLeastFrom-sides d whole a b x y from first second found split is_a is_b one two lesser =
-    IsLeastFrom-same (λ k. names_latch d x k || names_latch d y k) (names_latch d whole) (latch_count d) from found
-    (λ k. ap (λ e. names_latch d e k || names_latch d y k) is_a ∙ ap (λ e. names_latch d a k || names_latch d e k) is_b ∙ sym (split k))
-    (IsLeastFrom-lesser (names_latch d x) (names_latch d y) (latch_count d) from first second found one two lesser)
+updates_covered : (d : Decls) (us : List Update) (l : ℕ) → covers (map (λ u. one_latch (latch_of_cell d (update_cell u))) us) l
+    ≡ list_any (λ u. latch_of_cell d (update_cell u) == l) us
+updates_covered d [] l = refl
+updates_covered d (u ∷ us) l =
+    ap (λ b. b || covers (map (λ x. one_latch (latch_of_cell d (update_cell x))) us) l) (in_one (latch_of_cell d (update_cell u)) l)
+    ∙ ap (λ b. (latch_of_cell d (update_cell u) == l) || b) (updates_covered d us l)
 
--- a sum
-pub IsLeastFrom-Plus : (d : Decls) (whole a b x y : Expr) (from : ℕ) (first second found : Option ℕ) → whole ≡ Plus a b → x ≡ a → y ≡ b
-    → IsLeastFrom (names_latch d x) (latch_count d) from first → IsLeastFrom (names_latch d y) (latch_count d) from second → IsLesser first second found
-    → IsLeastFrom (names_latch d whole) (latch_count d) from found
-IsLeastFrom-Plus d whole a b x y from first second found is = IsLeastFrom-sides d whole a b x y from first second found
-    (λ k. ap (λ e. names_latch d e k) is ∙ any_of-Plus (λ r. is_latch_of d k (tensor_named d r.0)) a b)
+tensor_covered : (d : Decls) (o : Option ℕ) (l : ℕ) → covers (tensor_ranges d o) l ≡ is_latch_of d l o
+tensor_covered d None l = refl
+tensor_covered d (Some t) l = or_nothing (nat_le (first_latch d t) l && nat_lt l (first_latch d t + latches_of_tensor d t))
 
--- a difference
-pub IsLeastFrom-Minus : (d : Decls) (whole a b x y : Expr) (from : ℕ) (first second found : Option ℕ) → whole ≡ Minus a b → x ≡ a → y ≡ b
-    → IsLeastFrom (names_latch d x) (latch_count d) from first → IsLeastFrom (names_latch d y) (latch_count d) from second → IsLesser first second found
-    → IsLeastFrom (names_latch d whole) (latch_count d) from found
-IsLeastFrom-Minus d whole a b x y from first second found is = IsLeastFrom-sides d whole a b x y from first second found
-    (λ k. ap (λ e. names_latch d e k) is ∙ any_of-Minus (λ r. is_latch_of d k (tensor_named d r.0)) a b)
+accesses_covered : (d : Decls) (accs : List (List ℕ × List ℕ)) (l : ℕ) → covers (access_ranges d accs) l
+    ≡ list_any (λ a. is_latch_of d l (tensor_named d a.0)) accs
+accesses_covered d [] l = refl
+accesses_covered d (a ∷ accs) l =
+    ap (λ (rs : List LatchRange). covers rs l) (flat_map-cons (λ (x : List ℕ × List ℕ). tensor_ranges d (tensor_named d x.0)) a accs)
+    ∙ list_any-append (λ (r : LatchRange). nat_le r.first l && nat_lt l r.end) (tensor_ranges d (tensor_named d a.0)) (access_ranges d accs)
+    ∙ ap (λ b. b || covers (access_ranges d accs) l) (tensor_covered d (tensor_named d a.0) l)
+    ∙ ap (λ b. is_latch_of d l (tensor_named d a.0) || b) (accesses_covered d accs l)
 
--- a product
-pub IsLeastFrom-Times : (d : Decls) (whole a b x y : Expr) (from : ℕ) (first second found : Option ℕ) → whole ≡ Times a b → x ≡ a → y ≡ b
-    → IsLeastFrom (names_latch d x) (latch_count d) from first → IsLeastFrom (names_latch d y) (latch_count d) from second → IsLesser first second found
-    → IsLeastFrom (names_latch d whole) (latch_count d) from found
-IsLeastFrom-Times d whole a b x y from first second found is = IsLeastFrom-sides d whole a b x y from first second found
-    (λ k. ap (λ e. names_latch d e k) is ∙ any_of-Times (λ r. is_latch_of d k (tensor_named d r.0)) a b)
+-- they cover the latches that the call needs
+pub covers-call : (d : Decls) (call : Call) (l : ℕ) → covers (call_ranges d call) l ≡ needs d call l
+covers-call d (Get cell) l = or_nothing (nat_le (latch_of_cell d cell) l && nat_lt l (latch_of_cell d cell + 1)) ∙ in_one (latch_of_cell d cell) l
+covers-call d (Batch updates) l = updates_covered d updates l
+covers-call d (Query s) l = accesses_covered d (accesses s.right) l
 
--- a negation
-pub IsLeastFrom-Negate : (d : Decls) (whole a x : Expr) (from : ℕ) (found : Option ℕ) → whole ≡ Negate a → x ≡ a
-    → IsLeastFrom (names_latch d x) (latch_count d) from found → IsLeastFrom (names_latch d whole) (latch_count d) from found
-IsLeastFrom-Negate d whole a x from found is same so = IsLeastFrom-same (names_latch d x) (names_latch d whole) (latch_count d) from found
-    (λ k. ap (λ e. names_latch d e k) same ∙ sym (ap (λ e. names_latch d e k) is ∙ any_of-Negate (λ r. is_latch_of d k (tensor_named d r.0)) a)) so
+-- the ranges of some accesses behind those of others
+pub access_ranges-sides : (d : Decls) (old mid new : List LatchRange) (all xs ys : List (List ℕ × List ℕ)) → all ≡ xs ++ ys
+    → mid ≡ old ++ access_ranges d xs → new ≡ mid ++ access_ranges d ys → new ≡ old ++ access_ranges d all
+access_ranges-sides d old mid new all xs ys split first second =
+    second ∙ ap (λ (rs : List LatchRange). rs ++ access_ranges d ys) first ∙ append_assoc old (access_ranges d xs) (access_ranges d ys)
+    ∙ ap (λ (rs : List LatchRange). old ++ rs) (sym (ap (access_ranges d) split
+    ∙ flat_map-append (λ (x : List ℕ × List ℕ). tensor_ranges d (tensor_named d x.0)) xs ys))
 
--- ---- tensors
+-- there are no more of them than accesses
+pub length-access_ranges : (d : Decls) (accs : List (List ℕ × List ℕ)) → length (access_ranges d accs) ≤ length accs
+length-access_ranges d [] = omega arith
+length-access_ranges d (a ∷ accs) =
+    let rest = length-access_ranges d accs in
+    let one = few (tensor_named d a.0) in
+    let parts = ap (λ (rs : List LatchRange). length rs) (flat_map-cons (λ (x : List ℕ × List ℕ). tensor_ranges d (tensor_named d x.0)) a accs)
+    ∙ length-append (tensor_ranges d (tensor_named d a.0)) (access_ranges d accs) in
+    omega (arith, rest, one, parts)
+  where
+    few : (o : Option ℕ) → length (tensor_ranges d o) ≤ 1
+    few None = omega arith
+    few (Some t) = omega arith
 
--- the latches of a tensor are a range of numbers
-pub IsLeastFrom-tensor : (d : Decls) (xs : List TensorDecl) (t first end from : ℕ) (x : TensorDecl) (found : Option ℕ) → xs ≡ d.tensors → t < length xs
-    → first ≡ sum_by (λ y. y.latches) (take t xs) → x ≡ get_or xs t x → end ≡ first + (get_or xs t x).latches
-    → ((limit : ℕ) → end ≤ limit → IsLeastFrom (λ l. nat_le first l && nat_lt l end) limit from found)
-    → IsLeastFrom (λ l. is_latch_of d l (Some t)) (latch_count d) from found
-IsLeastFrom-tensor d xs t first end from x found same l is at ends all =
-    let declared : t < length d.tensors = subst (λ ys. t < length ys) same l in
-    let first_is : first ≡ first_latch d t = first_latch-sum d xs t first same is in
-    let many : (get_or xs t x).latches ≡ latches_of_tensor d t = sym (ap (λ y. y.latches) at) ∙ latches_of_tensor-at d xs t x same l at in
-    let end_is : end ≡ first_latch d t + latches_of_tensor d t = omega (arith, ends, first_is, many) in
-    let below : end ≤ latch_count d = let few = latches_below d t declared in omega (arith, few, end_is) in
-    IsLeastFrom-same (λ k. nat_le first k && nat_lt k end) (λ k. is_latch_of d k (Some t)) (latch_count d) from found
-    (λ k. ap (λ n. nat_le n k && nat_lt k end) first_is ∙ ap (λ n. nat_le (first_latch d t) k && nat_lt k n) end_is) (all (latch_count d) below)
+-- ---- the two sides of an expression
+
+-- there is room for the first side
+pub room_first : (old limit : ℕ) (whole a b x : Expr) → accesses whole ≡ accesses a ++ accesses b → x ≡ a → old + length (accesses whole) ≤ limit
+    → old + length (accesses x) ≤ limit
+room_first old limit whole a b x split first room =
+    let all = ap (λ (accs : List (List ℕ × List ℕ)). length accs) split ∙ length-append (accesses a) (accesses b) in
+    let here = ap (λ (e : Expr). length (accesses e)) first in
+    omega (arith, all, here, room)
+
+-- and then for the second
+pub room_second : (d : Decls) (old mid : List LatchRange) (limit : ℕ) (whole a b x y : Expr) → accesses whole ≡ accesses a ++ accesses b → x ≡ a → y ≡ b
+    → mid ≡ old ++ access_ranges d (accesses x) → length old + length (accesses whole) ≤ limit → length mid + length (accesses y) ≤ limit
+room_second d old mid limit whole a b x y split first second added room =
+    let all = ap (λ (accs : List (List ℕ × List ℕ)). length accs) split ∙ length-append (accesses a) (accesses b) in
+    let one = ap (λ (e : Expr). length (accesses e)) first in
+    let two = ap (λ (e : Expr). length (accesses e)) second in
+    let more = ap (λ (rs : List LatchRange). length rs) added ∙ length-append old (access_ranges d (accesses x)) in
+    let few = length-access_ranges d (accesses x) in
+    omega (arith, all, one, two, more, few, room)
+
+-- the ranges of both sides are those of the whole
+pub added_sides : (d : Decls) (old mid new : List LatchRange) (whole a b x y : Expr) → accesses whole ≡ accesses a ++ accesses b → x ≡ a → y ≡ b
+    → mid ≡ old ++ access_ranges d (accesses x) → new ≡ mid ++ access_ranges d (accesses y) → new ≡ old ++ access_ranges d (accesses whole)
+added_sides d old mid new whole a b x y split first second one two =
+    access_ranges-sides d old mid new (accesses whole) (accesses x) (accesses y)
+    (split ∙ ap (λ (e : Expr). accesses e ++ accesses b) (sym first) ∙ ap (λ (e : Expr). accesses x ++ accesses e) (sym second)) one two
+
+-- ---- the search
+
+-- tests that are equal from there on
+pub IsLeastFrom-as : (f g : ℕ → Bool) (from : ℕ) (found : Option ℕ) → ((k : ℕ) → from ≤ k → f k ≡ g k) → IsLeastFrom f from found → IsLeastFrom g from found
+IsLeastFrom-as f g from None same so = record { some_latch = tt; least = λ k b h. so.least k b (same k b ∙ h) }
+IsLeastFrom-as f g from (Some l) same so = record {
+  some_latch = (so.some_latch.0, sym (same l so.some_latch.0) ∙ so.some_latch.1);
+  least = λ k b h. so.least k b (same k b ∙ h);
+}
+
+-- no range is left
+pub IsLeastFrom-none : (ranges : List LatchRange) (i from : ℕ) → length ranges ≤ i → IsLeastFrom (covers (drop i ranges)) from None
+IsLeastFrom-none ranges i from all = record {
+  some_latch = tt;
+  least = λ k b h. absurd (nothing (sym (ap (λ (rs : List LatchRange). covers rs k) (drop_all i ranges all)) ∙ h));
+}
+  where
+    nothing : false ≡ true → ⊥
+    nothing e = cc
+
+below_of : (a b : ℕ) → nat_le a b ≡ true → a ≤ b
+below_of a b e = grind (arith, nat_tests)
+
+above_of : (a b : ℕ) → nat_lt a b ≡ true → a < b
+above_of a b e = grind (arith, nat_tests)
+
+-- where no range begins below a number, none covers a latch below it
+covers_above : (f k : ℕ) (xs : List LatchRange) → ((j : ℕ) (d : LatchRange) → j < length xs → f ≤ (get_or xs j d).first) → covers xs k ≡ true → f ≤ k
+covers_above f k [] low h = cc
+covers_above f k (x ∷ xs) low h = ⊎_elim
+    (λ (e : is_in x k ≡ true).
+    let a = below_of x.first k (both_true (nat_le x.first k) (nat_lt k x.end) e).0 in
+    let b = low 0 x (omega arith) in
+    omega (arith, a, b))
+    (λ (e : covers xs k ≡ true). covers_above f k xs (λ j d l. low (suc j) d (omega arith)) e)
+    (or_cases (is_in x k) (covers xs k) h)
+
+in_both : (a l b : ℕ) → a ≤ l → l < b → (nat_le a l && nat_lt l b) ≡ true
+in_both a l b low high = go (nat_le a l) (nat_lt l b) refl refl
+  where
+    go : (p q : Bool) → nat_le a l ≡ p → nat_lt l b ≡ q → (p && q) ≡ true
+    go true true e f = refl
+    go true false e f = grind (arith, nat_tests)
+    go false q e f = grind (arith, nat_tests)
+
+module _ (ranges : List LatchRange) (i from : ℕ) (r : LatchRange) (within : i < length ranges) (is : r ≡ get_or ranges i r) where
+  first_left : drop i ranges ≡ r ∷ drop (i + 1) ranges
+  first_left = at_drop_more (λ (rs : List LatchRange). rs) ranges i r within ∙ ap (λ x. x ∷ drop (i + 1) ranges) (sym is)
+
+  begins : AreAscending ranges → (j : ℕ) (d : LatchRange) → j < length (drop i ranges) → r.first ≤ (get_or (drop i ranges) j d).first
+  begins up j d below =
+      let many = length-drop i ranges in
+      let one = up i (i + j) d (omega arith) (omega (arith, many, below)) in
+      let here = ap (λ (x : LatchRange). x.first) (get_or_default ranges i d r within ∙ sym is) in
+      let there = ap (λ (x : LatchRange). x.first) (get_or-drop i ranges j d) in
+      omega (arith, one, here, there)
+
+  -- the least latch of the first range that has one is the least of all
+  pub IsLeastFrom-range : (l : ℕ) → AreAscending ranges → IsLeastFrom (is_in r) from (Some l) → IsLeastFrom (covers (drop i ranges)) from (Some l)
+  IsLeastFrom-range l up own = record {
+    some_latch = (
+      own.some_latch.0,
+      ap (λ (rs : List LatchRange). covers rs l) first_left ∙ or_left (is_in r l) (covers (drop (i + 1) ranges) l) own.some_latch.1,
+    );
+    least = λ k b h.
+        let high = above_of l r.end (both_true (nat_le r.first l) (nat_lt l r.end) own.some_latch.1).1 in
+        let low = covers_above r.first k (drop i ranges) (begins up) h in
+        ⊎_elim
+        (λ (e : k < r.end). own.least k b (in_both r.first k r.end low e))
+        (λ (e : r.end ≤ k). omega (arith, high, e))
+        (cases_lt k r.end);
+  }
+
+  -- a range without one covers none from there on
+  pub covers-past : IsLeastFrom (is_in r) from None → (k : ℕ) → from ≤ k → covers (drop (i + 1) ranges) k ≡ covers (drop i ranges) k
+  covers-past none k b = sym (ap (λ (rs : List LatchRange). covers rs k) first_left
+      ∙ ap (λ t. t || covers (drop (i + 1) ranges) k) (past (is_in r k) refl))
+    where
+      past : (t : Bool) → is_in r k ≡ t → t ≡ false
+      past true e = absurd (none.least k b e)
+      past false e = refl

@@ -55,26 +55,6 @@ own_restricted d l m (u ∷ us) = go (latch_of_cell d (update_cell u) == l) refl
 
 -- ---- update by update
 
-same_test : (a b : ℕ) → a ≡ b → (a == b) ≡ true
-same_test a b e = grind (arith, nat_tests)
-
-other_test : (a b : ℕ) → a ≢ b → (a == b) ≡ false
-other_test a b e = grind (arith, nat_tests)
-
--- an update of the latch comes first among those that are left
-pub own_here : (d : Decls) (w : ℕ) (us : List Update) (i : ℕ) (u : Update) → i < length us → u ≡ get_or us i u → latch_of_cell d (update_cell u) ≡ w
-    → own d w (drop i us) ≡ u ∷ own d w (drop (i + 1) us)
-own_here d w us i u l is here =
-    at_drop_more (own d w) us i u l ∙ ap (λ x. own d w (x ∷ drop (i + 1) us)) (sym is)
-    ∙ ap (λ b. cond b (u ∷ own d w (drop (i + 1) us)) (own d w (drop (i + 1) us))) (same_test (latch_of_cell d (update_cell u)) w here)
-
--- an update of another latch is none of them
-pub own_later : (d : Decls) (w : ℕ) (us : List Update) (i : ℕ) (u : Update) → i < length us → u ≡ get_or us i u → latch_of_cell d (update_cell u) ≢ w
-    → own d w (drop i us) ≡ own d w (drop (i + 1) us)
-own_later d w us i u l is other =
-    at_drop_more (own d w) us i u l ∙ ap (λ x. own d w (x ∷ drop (i + 1) us)) (sym is)
-    ∙ ap (λ b. cond b (u ∷ own d w (drop (i + 1) us)) (own d w (drop (i + 1) us))) (other_test (latch_of_cell d (update_cell u)) w other)
-
 -- what is made and what is due stay the same together
 pub own_made : (old new : StoreState) (u : Update) (rest : List Update) (all : Contents) → old.due ≡ u ∷ rest → new.due ≡ rest
     → store_content new ≡ with_update (store_content old) u → with_updates (store_content old) old.due ≡ all

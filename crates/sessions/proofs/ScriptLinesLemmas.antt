@@ -253,3 +253,7 @@ module _ (script : List Verdict) (s i : ℕ) (old mid : SeatState) (owns : OwnsS
   -- the seat still owns all sessions, where it did
   pub IsAtLine-all : OwnsAll old → OwnsAll mid
   IsAtLine-all all = subst OwnsAll (sym at.rest) (record { first = all.first; last = all.last })
+
+  -- its calls still aren't stopped, where they weren't
+  pub IsAtLine-unstopped : (waits : Bool) → (waits ≡ true) ⊎ OwnsAll old → (waits ≡ true) ⊎ OwnsAll mid
+  IsAtLine-unstopped waits can = ⊎_elim (λ (e : waits ≡ true). inl e) (λ (all : OwnsAll old). inr (IsAtLine-all all)) can

@@ -1,5 +1,5 @@
 -- What an engine's call asks of its seat, what it does to it, and what it answers.
-use Rattle.std.specs.Prelude.{◌≡◌, ◌<◌, ◌≤◌, List, [], ◌∷◌, ◌++◌, length, Some, IsTrue}
+use Rattle.std.specs.Prelude.{◌≡◌, ℕ, ◌<◌, ◌≤◌, Bool, List, [], ◌∷◌, ◌++◌, length, Some, IsTrue}
 use Rattle.commit_core.specs.Machine.{commit_needs}
 use Rattle.dt_model.specs.declared.calls.Call.{Call}
 use Rattle.dt_model.specs.declared.calls.Entry.{Entry}
@@ -8,7 +8,7 @@ use Rattle.dt_model.specs.declared.replies.Reply.{Reply}
 use Rattle.dt_model.specs.Runs.{reply_of_entry}
 use Rattle.dt_model.specs.Verdicts.{call_is_valid}
 use Rattle.fiber_latch.specs.declared.rule.Busy.{Busy}
-use Rattle.fiber_latch.specs.Views.{Extends}
+use Rattle.fiber_latch.specs.Views.{In, Extends}
 use Rattle.fiber_latch.specs.Seats.{SeatState, IsOutside, IsHeldBy, last_number}
 use Rattle.sessions.specs.declared.faults.TryFault.{TryFault}
 use Rattle.sessions.specs.declared.faults.TryFault.TheVariants as fault
@@ -46,8 +46,14 @@ pub record HasMade (e : Entry) (reply : Reply) (old new : SeatState) : Type 0 wh
   pub rest : new ≡ record old { seen = new.seen; conflicts = new.conflicts }
   pub answers : reply_of_entry old.config.world new.seen (length before) ≡ Some reply
 
--- a call was stopped by a latch that its commit needs, which another seat's session held; the conflict is noted, the seat
--- holds what it held, and has seen no more entry of its sessions
+-- the seat has noted more conflicts, or none: each is with one of these latches, and with a session of another seat
+pub record NotesConflicts (latches : ℕ → Bool) (old new : SeatState) : Type 0 where
+  pub later : List (ℕ × ℕ)
+  pub noted : new.conflicts ≡ old.conflicts ++ later
+  pub each : (p : ℕ × ℕ) → In p later → IsTrue (latches p.0) × IsHeldBy p.1 old
+
+-- a call was stopped by a latch that its commit needs; the conflict with a session of another seat is noted, the seat holds
+-- what it held, and has seen no more entry of its sessions
 pub record IsStopped (call : Call) (old : SeatState) (b : Busy) (new : SeatState) : Type 0 where
   pub goes : GoesOn old new
   pub held : new.held ≡ old.held

@@ -44,7 +44,11 @@ pub record AddsFiber (old new : List (List ℕ × ℕ)) (s : StoreState) : Type 
   pub added : new ≡ old ++ pairs
   pub value : (d : Decls) (l : ℕ) → IsSound d l s → pairs ≡ nonzeros (store_content s s.tensor) (all_below (dims_of d s.tensor))
 
--- the pairs of the store under this latch are put at the end, in all contents that the stores have, if one is held there
-abbrev pub AddsHeld : List (Hand StoreState) → ℕ → List (List ℕ × ℕ) → List (List ℕ × ℕ) → Type 0
-AddsHeld hands l old new = (d : Decls) (m : Contents) → AreFibersOf d m hands → ((h : Hand StoreState) × In h hands × (h.latch ≡ l))
-    → (s : StoreState) × IsFiberOf d m l s × AddsFiber old new s
+-- the pairs of a store of this kind are put at the end, if there is one
+abbrev pub AddsStore : (StoreState → Type 0) → List (List ℕ × ℕ) → List (List ℕ × ℕ) → Type 0
+AddsStore is old new = ((s : StoreState) × is s) → (s : StoreState) × is s × AddsFiber old new s
+
+-- where `has` says which stores latches have: each latch of tensor t has one, which has what the contents have in its cells
+pub record AreFibersFor (has : ℕ → StoreState → Type 0) (d : Decls) (m : Contents) (t : ℕ) : Type 0 where
+  pub there : (l : ℕ) → IsTrue (is_latch_of d l (Some t)) → (s : StoreState) × has l s
+  pub fiber : (l : ℕ) (s : StoreState) → IsTrue (is_latch_of d l (Some t)) → has l s → IsFiberOf d m l s

@@ -10,17 +10,17 @@ use Rattle.dt_model.specs.Contents.{Contents, with_updates}
 use Rattle.dt_model.specs.Latches.{needs}
 use Rattle.dt_model.specs.Runs.{contents_after}
 use Rattle.fiber_latch.specs.declared.view.TableConfig.{TableConfig}
+use Rattle.fiber_latch.specs.declared.rule.Kept.{Kept}
 use Rattle.fiber_latch.specs.declared.rule.Kept.TheVariants.{Fiber}
 use Rattle.fiber_latch.specs.Rule.{GoodAt}
 use Rattle.fiber_latch.specs.Views.{In, Extends}
-use Rattle.fiber_latch.specs.Seats.{SeatState, IsBusy, IsHeldBy, IsTaken}
+use Rattle.fiber_latch.specs.Seats.{SeatState, IsTaken}
 use Rattle.fiber_store.specs.Stores.{StoreState, IsSound, own, store_content}
 use Rattle.sessions.specs.declared.hands.Hand.{Hand}
 use Rattle.sessions.specs.declared.hands.Fault.{Fault}
 use Rattle.sessions.specs.declared.hands.Fault.TheVariants.{Held, Full}
 use Rattle.sessions.specs.declared.faults.TryFault.{TryFault}
 use Rattle.sessions.specs.declared.faults.TryFault.TheVariants as fault
-use Rattle.sessions.specs.Calling.{IsOutOfMemory, IsStopped}
 use Rattle.sessions.specs.Entering.{IsForeign, IsAboveHeld}
 
 -- the updates that a store is due
@@ -52,27 +52,20 @@ pub record Holds {C : Type 0} (content : C → Contents) (sound : Decls → ℕ 
 
 -- ---- one take
 
--- the seat has taken the latch with its store for the session, after tries that may have failed
-abbrev pub IsTakenInTime : ℕ → ℕ → SeatState → StoreState → SeatState → Type 0
-IsTakenInTime l s old y new = (conflicts : List (ℕ × ℕ)) × IsTaken (GoodAt store_content IsSound) l s (record old { conflicts = conflicts }) (Fiber y) new
+-- the latch is taken with its value for the session, whatever conflicts were noted before
+abbrev pub IsTakenInTime : ℕ → ℕ → SeatState → Kept StoreState → SeatState → Type 0
+IsTakenInTime l s old y new = (conflicts : List (ℕ × ℕ)) × IsTaken (GoodAt store_content IsSound) l s (record old { conflicts = conflicts }) y new
+
+-- nothing changed, but that conflicts may have been noted
+abbrev pub IsOnlyNoted : SeatState → SeatState → Type 0
+IsOnlyNoted old new = new ≡ record old { conflicts = new.conflicts }
 
 -- the seat holds what it held, and has seen no entry that touches it
 pub record IsAsBefore (old new : SeatState) : Type 0 where
   pub rest : new ≡ record old { seen = new.seen; conflicts = new.conflicts }
   pub grown : Extends (IsForeign old) old.seen new.seen
 
--- one take failed: its latch was held by another, or it ran out of memory, and the latch was given back
-abbrev pub HasFailed : ℕ → SeatState → Fault → SeatState → Type 0
-HasFailed l old (Held b) new = IsBusy l old b new
-HasFailed l old Full new = (new ≡ record old { seen = new.seen }) × Extends (IsForeign old) old.seen new.seen
-
 -- ---- all takes
-
--- some take failed: what was met is the latch of the call that another held, or nothing
-abbrev pub HasFailedTaking : Call → SeatState → Fault → SeatState → Type 0
-HasFailedTaking call old (Held b) new = (new.conflicts ≡ old.conflicts ++ (b.latch, b.holder) ∷ [])
-    × IsTrue (needs old.config.world.decls call b.latch) × IsHeldBy b.holder old
-HasFailedTaking call old Full new = new.conflicts ≡ old.conflicts
 
 -- all latches of the call are held, below the journal's, and each store is due its own updates
 pub record IsReady {C : Type 0} (due : C → List Update) (s : ℕ) (call : Call) (seat : SeatState) (hands : List (Hand C)) : Type 0 where
@@ -88,13 +81,6 @@ pub record HoldsBehind {C : Type 0} (content : C → Contents) (sound : Decls �
   pub seen : contents_after seat.config.world seat.seen ≡ with_updates (contents_after seat.config.world before) updates
   pub good : AreGood content sound seat.config before hands
   pub dues : AreDue due seat.config.world.decls (Batch updates) hands
-
--- ---- the whole call
-
--- a call wasn't made: it was stopped, or ran out of memory
-abbrev pub IsUnmade : Call → SeatState → Fault → SeatState → Type 0
-IsUnmade call old (Held b) new = IsStopped call old b new
-IsUnmade call old Full new = IsOutOfMemory old new
 
 -- the fault, with what comes back
 abbrev pub fault_with : {T : Type 0} → Fault → T → TryFault T

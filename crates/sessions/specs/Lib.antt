@@ -5,6 +5,7 @@ pub mod Closing
 pub mod Engines
 pub mod Entering
 pub mod Holding
+pub mod Noting
 pub mod Needing
 pub mod HeldTables
 pub mod Loading
@@ -14,3 +15,4 @@ pub mod Running
 pub mod ScriptLines
 pub mod SessionRuns
 pub mod RunTests
+pub mod TrialSeats

@@ -2,14 +2,16 @@
 ghost use Rattle.std.specs.Prelude.{◌≡◌, ◌+◌, ◌-◌, ◌<◌, ◌≤◌, [], IfOk};
 ghost use Rattle.dt_model.specs.declared.limits.TheConstants.{MOST_SESSIONS, MOST_CALLS};
 ghost use Rattle.dt_model.specs.Runs.{IsLegal};
+ghost use Rattle.dt_model.specs.Verdicts.{call_is_valid};
 ghost use Rattle.dt_model.specs.Worlds.{IsValid};
 ghost use Rattle.fiber_latch.specs.Seats.{AreStores, BelongsTo, HasJoined, config_for, first_state};
 ghost use Rattle.fiber_store.specs.Stores.{IsSound, store_content};
 
 use crate::loading::load_stores;
-use dt_model::{Decls, NoMemory, World, latch_count};
+use dt_model::{Call, Decls, NoMemory, World, latch_count};
 use fiber_latch::{Closed, Latches, Seat};
 use fiber_store::FiberStore;
+use index_check::call_is_valid;
 use std::alloc::Global;
 use std::marker::Model;
 
@@ -66,6 +68,14 @@ impl Engine {
             end,
         };
         Ok((engine, seat))
+    }
+
+    /// Whether a call may be made: its cells are valid, a batch has 1 to 64 updates, and a statement is small and not refused.
+    /// It takes no memory.
+    pub fn valid(&self, call: &Call) -> bool
+        ensures value { result ≡ call_is_valid self.now.config.world.decls call.now }
+    {
+        call_is_valid(&self.decls, call)
     }
 
     /// Cuts off the sessions from `at` on, for a seat of their own.

@@ -1,34 +1,20 @@
 //! The last step of a call: its entry goes into the history while its fibers are held.
-ghost use Rattle.std.specs.Prelude.{◌≡◌, ℕ, [], ◌∷◌, ◌++◌, drop, OnOk, IfErr, IsTrue};
+ghost use Rattle.std.specs.Prelude.{◌≡◌, ◌==◌, ℕ, [], ◌∷◌, ◌++◌, drop, OnOk, OnErr, IsTrue};
 ghost use Rattle.dt_model.specs.Latches.{needs};
 ghost use Rattle.dt_model.specs.Tensors.{latch_count};
 ghost use Rattle.dt_model.specs.Verdicts.{call_is_valid};
 ghost use Rattle.fiber_latch.specs.Views.{In};
-ghost use Rattle.fiber_latch.specs.Seats.{BelongsTo, IsBusy, IsJournal};
+ghost use Rattle.fiber_latch.specs.Seats.{BelongsTo, IsJournal};
 ghost use Rattle.sessions.specs.Calling.{IsNext};
 ghost use Rattle.sessions.specs.Entering.{CanEnter, HasEntered};
+ghost use Rattle.sessions.specs.Holding.{IsOnlyNoted};
+ghost use Rattle.sessions.specs.Noting.{Notes, stop_of_take};
 
 use crate::engine::Chair;
+use crate::takers::Taker;
 use dt_model::{Entry, Journal};
 use fiber_latch::{Busy, Kept, Latches};
 use fiber_store::FiberStore;
-use std::sync::Wait;
-
-/// An entry that was not entered.
-#[derive(Drop)]
-pub struct Stopped {
-    pub busy: Busy,
-    pub entry: Entry,
-}
-
-impl Stopped {
-    /// What stopped it, without the entry.
-    pub fn busy(self) -> Busy
-        ensures value { result ≡ self.busy }
-    {
-        self.busy
-    }
-}
 
 /// Commits an entry while the journal is in hand, and gives the journal back.
 fn write(
@@ -51,46 +37,28 @@ fn write(
     latches.give(seat, end, Kept::Journal(journal));
 }
 
-/// Takes the journal's latch, commits the entry and gives the latch back, where it is free.
-pub fn try_enter(
+/// Takes the journal's latch, commits the entry and gives the latch back. Where the take was stopped, the entry is dropped.
+pub fn enter<T: Taker>(
+    taker: &T,
     latches: &Latches<FiberStore>,
     seat: &mut Chair,
     end: u32,
     entry: Entry,
-) -> Result<(), Stopped>
+) -> Result<(), Busy>
     requires table { BelongsTo seat.old latches.now }
     requires end { (end ≡ latches.now.config.end) × (end ≡ latch_count latches.now.config.world.decls) }
     requires ready { CanEnter entry seat.old }
     ensures ok { OnOk result (HasEntered entry seat.old seat.new) }
-    ensures busy { IfErr result (λ r. IsBusy end seat.old r.busy seat.new × (r.entry ≡ entry)) }
+    ensures err { OnErr result (IsOnlyNoted seat.old seat.new) }
+    ensures notes { Notes T.waits (λ l. l == end) (stop_of_take result) seat.old seat.new }
 {
     let session = entry.turn.session;
-    match latches.try_take(seat, session, end) {
-        Err(busy) => Err(Stopped { busy, entry }),
+    match taker.take(latches, seat, session, end) {
+        Err(busy) => Err(busy),
         Ok(Kept::Journal(journal)) => {
             write(latches, seat, end, journal, entry);
             Ok(())
         }
         Ok(Kept::Fiber(_)) => unreachable!(),
     }
-}
-
-/// Takes the journal's latch, commits the entry and gives the latch back. It waits while another session holds it.
-pub fn enter<R: Wait>(
-    rt: &R,
-    latches: &Latches<FiberStore>,
-    seat: &mut Chair,
-    end: u32,
-    entry: Entry,
-)
-    requires table { BelongsTo seat.old latches.now }
-    requires end { (end ≡ latches.now.config.end) × (end ≡ latch_count latches.now.config.world.decls) }
-    requires ready { CanEnter entry seat.old }
-    ensures entered { HasEntered entry seat.old seat.new }
-{
-    let session = entry.turn.session;
-    let Kept::Journal(journal) = latches.take(rt, seat, session, end) else {
-        unreachable!()
-    };
-    write(latches, seat, end, journal, entry);
 }

@@ -1,89 +1,56 @@
 //! The answer of a statement over the stores that a seat holds.
-ghost use Rattle.std.specs.Prelude.{◌≡◌, ◌≢◌, ◌<◌, true, length, IfOk, OnOk, IfSome, MatchOption, IsTrue};
+ghost use Rattle.std.specs.Prelude.{◌≡◌, ◌<◌, true, length, IfOk, OnOk, IsTrue};
 ghost use Rattle.dt_model.specs.declared.calls.Call.TheVariants.{Query};
 ghost use Rattle.dt_model.specs.Contents.{Contents};
 ghost use Rattle.dt_model.specs.Latches.{needs};
 ghost use Rattle.dt_model.specs.Statements.{accesses, answer};
 ghost use Rattle.dt_model.specs.Verdicts.{call_is_valid};
 ghost use Rattle.dt_model.specs.Worlds.{decls_are_valid};
-ghost use Rattle.fiber_store.specs.Stores.{StoreState};
-ghost use Rattle.sessions.specs.declared.hands.Hand as hand;
 ghost use Rattle.slow_eval.specs.Given.{has_entry};
-ghost use Rattle.fiber_latch.specs.Views.{In};
-ghost use Rattle.sessions.specs.HeldTables.{AddsHeld, AreFibersOf, AreHeldTables, HoldsEach, IsHeldTable, IsStoreAt};
+ghost use Rattle.sessions.specs.HeldTables.{AreFibersOf, AreHeldTables, HoldsEach};
 ghost use Rattle.sessions.specs.QueryTables.{HasTable, HaveTables, KeepsTables};
 
-use crate::fiber_rows::add_fiber;
-use crate::hands::Hand;
-use dt_model::{Decls, Expr, Name, NoMemory, Nonzeros, Stmt, total_latches};
+use crate::fiber_rows::{Fibers, rows_of};
+use crate::hands::Hands;
+use dt_model::{Decls, Expr, Name, NoMemory, Nonzeros, Stmt};
 use fiber_store::FiberStore;
 use slow_eval::{Tables, evaluate};
 use std::alloc::Global;
 
-/// The store that is held under a latch. It looks at each.
-fn store_at(hands: &[Hand<FiberStore>], latch: u32) -> Option<&FiberStore>
-    ensures some { IfSome result (λ s. IsStoreAt hands.now latch s.now) }
-    ensures none { MatchOption result ((h : hand.Hand StoreState) → In h hands.now → h.latch ≢ latch) (λ s. Unit {0}) }
-{
-    for hand in hands {
-        if hand.latch == latch {
-            return Some(&hand.store);
+impl Fibers for Hands {
+    ghost use Rattle.sessions.specs.HeldTables.{IsStoreAt};
+
+    ghost has = { λ hands l s. IsStoreAt hands.items l s };
+
+    fn store(&self, latch: u32) -> Option<&FiberStore> {
+        for hand in self {
+            if hand.latch == latch {
+                return Some(&hand.store);
+            }
         }
+        None
     }
-    None
-}
-
-/// Puts the nonzeros of the store that is held under a latch at the end.
-fn add_held(rows: &mut Nonzeros, hands: &[Hand<FiberStore>], latch: u32) -> Result<(), NoMemory>
-    ensures ok { OnOk result (AddsHeld hands.now latch rows.old rows.new) }
-{
-    match store_at(hands, latch) {
-        Some(store) => add_fiber(rows, store),
-        None => Ok(()),
-    }
-}
-
-/// The nonzeros of a declared tensor, fiber after fiber in ascending order of latches. It takes time by the number of the
-/// tensor's cells.
-fn held_table(
-    alloc: Global,
-    decls: &Decls,
-    hands: &[Hand<FiberStore>],
-    tensor: u32,
-) -> Result<Nonzeros, NoMemory>
-    requires decls { IsTrue (decls_are_valid decls.now) }
-    requires declared { tensor < length decls.now.tensors }
-    ensures value { IfOk result (IsHeldTable decls.now hands.now tensor) }
-{
-    let tensors = decls.tensors.as_slice();
-    let first = total_latches(&tensors[..tensor as usize]);
-    let end = first + tensors[tensor as usize].latches;
-    let mut rows = Nonzeros::new(alloc);
-    for latch in first..end {
-        add_held(&mut rows, hands, latch)?;
-    }
-    Ok(rows)
 }
 
 /// Adds the table of a declared tensor, unless it is there.
 fn add_held_table(
     alloc: Global,
     decls: &Decls,
-    hands: &[Hand<FiberStore>],
+    hands: &Hands,
     tensor: u32,
     tables: &mut Tables,
 ) -> Result<(), NoMemory>
     requires decls { IsTrue (decls_are_valid decls.now) }
     requires declared { tensor < length decls.now.tensors }
-    requires tables { AreHeldTables decls.now hands.now tables.old.entries }
-    ensures tables { OnOk result (AreHeldTables decls.now hands.now tables.new.entries) }
+    requires tables { AreHeldTables decls.now hands.now.items tables.old.entries }
+    ensures tables { OnOk result (AreHeldTables decls.now hands.now.items tables.new.entries) }
     ensures has { OnOk result (has_entry tables.new.entries tensor ≡ true) }
     ensures kept { OnOk result (KeepsTables tables.old.entries tables.new.entries) }
 {
     if tables.has(tensor) {
         return Ok(());
     }
-    let pairs = held_table(alloc, decls, hands, tensor)?;
+    let pairs = rows_of(alloc, decls, hands, tensor)?;
     Ok(tables.add(tensor, pairs)?)
 }
 
@@ -91,13 +58,13 @@ fn add_held_table(
 fn add_held_named(
     alloc: Global,
     decls: &Decls,
-    hands: &[Hand<FiberStore>],
+    hands: &Hands,
     name: &Name,
     tables: &mut Tables,
 ) -> Result<(), NoMemory>
     requires decls { IsTrue (decls_are_valid decls.now) }
-    requires tables { AreHeldTables decls.now hands.now tables.old.entries }
-    ensures tables { OnOk result (AreHeldTables decls.now hands.now tables.new.entries) }
+    requires tables { AreHeldTables decls.now hands.now.items tables.old.entries }
+    ensures tables { OnOk result (AreHeldTables decls.now hands.now.items tables.new.entries) }
     ensures has { OnOk result (HasTable decls.now tables.new.entries name.now) }
     ensures kept { OnOk result (KeepsTables tables.old.entries tables.new.entries) }
 {
@@ -111,13 +78,13 @@ fn add_held_named(
 fn add_held_tables(
     alloc: Global,
     decls: &Decls,
-    hands: &[Hand<FiberStore>],
+    hands: &Hands,
     expr: &Expr,
     tables: &mut Tables,
 ) -> Result<(), NoMemory>
     requires decls { IsTrue (decls_are_valid decls.now) }
-    requires tables { AreHeldTables decls.now hands.now tables.old.entries }
-    ensures tables { OnOk result (AreHeldTables decls.now hands.now tables.new.entries) }
+    requires tables { AreHeldTables decls.now hands.now.items tables.old.entries }
+    ensures tables { OnOk result (AreHeldTables decls.now hands.now.items tables.new.entries) }
     ensures has { OnOk result (HaveTables decls.now tables.new.entries (accesses expr.now)) }
     ensures kept { OnOk result (KeepsTables tables.old.entries tables.new.entries) }
 {
@@ -145,13 +112,13 @@ fn add_held_tables(
 pub fn answer_of(
     alloc: Global,
     decls: &Decls,
-    hands: &[Hand<FiberStore>],
+    hands: &Hands,
     stmt: &Stmt,
 ) -> Result<Nonzeros, NoMemory>
     requires decls { IsTrue (decls_are_valid decls.now) }
     requires call { IsTrue (call_is_valid decls.now (Query stmt.now)) }
-    ensures value { IfOk result (λ pairs. (m : Contents) → AreFibersOf decls.now m hands.now
-        → HoldsEach (needs decls.now (Query stmt.now)) hands.now → pairs ≡ answer decls.now m stmt.now) }
+    ensures value { IfOk result (λ pairs. (m : Contents) → AreFibersOf decls.now m hands.now.items
+        → HoldsEach (needs decls.now (Query stmt.now)) hands.now.items → pairs ≡ answer decls.now m stmt.now) }
 {
     let mut tables = Tables::new(alloc);
     add_held_tables(alloc, decls, hands, &stmt.right, &mut tables)?;

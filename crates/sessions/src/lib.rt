@@ -14,15 +14,20 @@
 mod alone;
 mod batches;
 mod engine;
+#[cfg(test)]
+mod engine_tests;
 mod entering;
 mod faults;
 mod fiber_rows;
 mod finishing;
 mod gets;
 mod hands;
+mod held_calls;
 mod held_tables;
 mod lines;
 mod loading;
+#[cfg(test)]
+mod memory_tests;
 mod needing;
 mod outcomes;
 mod results;
@@ -31,7 +36,10 @@ mod rooms;
 mod run_tests;
 mod running;
 mod statements;
+mod takers;
 mod taking;
+#[cfg(test)]
+mod valid_tests;
 
 pub use alone::run_alone;
 pub use engine::{Chair, Engine};

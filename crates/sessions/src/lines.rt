@@ -1,117 +1,81 @@
-//! A session runs its script, line by line: its calls wait for their latches.
-ghost use Rattle.std.specs.Prelude.{◌≡◌, ◌<◌, ◌≤◌, [], ◌∷◌, length, IsTrue};
-ghost use Rattle.dt_model.specs.declared.calls.Call.TheVariants.{Get, Batch, Query};
+//! A session runs its script, line by line, by either taker.
+ghost use Rattle.std.specs.Prelude.{◌≡◌, ◌⊎◌, ◌<◌, ◌≤◌, true, [], ◌∷◌, length, IsTrue};
 ghost use Rattle.fiber_latch.specs.Seats.{BelongsTo, OwnsSession};
 ghost use Rattle.sessions.specs.Calling.{entry_at, CanMake, IsNext};
 ghost use Rattle.sessions.specs.Outcomes.{session_outcomes};
 ghost use Rattle.sessions.specs.Running.{AreRunnable, line_is_valid};
-ghost use Rattle.sessions.specs.ScriptLines.{CameTo, HasRoom, IsAtLine, IsFresh, RunsLine};
+ghost use Rattle.sessions.specs.ScriptLines.{CameTo, HasRoom, IsAtLine, IsFresh, OwnsAll, RunsLine};
 
 use crate::engine::{Chair, Engine};
+use crate::hands::Fault;
 use crate::outcomes::{Lines, Outcome};
-use dt_model::{Call, Reply, Stmt, Turn, Updates, Verdict};
-use dt_outside::Gate;
-use std::sync::Wait;
-
-/// Makes a batch's updates, or runs out of memory.
-fn make_batch<R: Wait, G: Gate>(
-    rt: &R,
-    engine: &Engine,
-    gate: &G,
-    turn: Turn,
-    updates: &Updates,
-    seat: &mut Chair,
-) -> Outcome
-    requires engine { BelongsTo seat.old engine.now }
-    requires ready { CanMake (entry_at turn (Batch updates.now)) seat.old }
-    ensures came { CameTo (entry_at turn (Batch updates.now)) seat.old result seat.new }
-{
-    let Ok(copy) = updates.copy(engine.alloc) else {
-        return Outcome::NoMemory;
-    };
-    match engine.batch(rt, seat, turn, copy, gate) {
-        Ok(()) => Outcome::Reply(Reply::Done),
-        Err(_) => Outcome::NoMemory,
-    }
-}
-
-/// Answers a query, or runs out of memory.
-fn make_query<R: Wait, G: Gate>(
-    rt: &R,
-    engine: &Engine,
-    gate: &G,
-    turn: Turn,
-    stmt: &Stmt,
-    seat: &mut Chair,
-) -> Outcome
-    requires engine { BelongsTo seat.old engine.now }
-    requires ready { CanMake (entry_at turn (Query stmt.now)) seat.old }
-    ensures came { CameTo (entry_at turn (Query stmt.now)) seat.old result seat.new }
-{
-    let Ok(copy) = stmt.copy(engine.alloc) else {
-        return Outcome::NoMemory;
-    };
-    match engine.query(rt, seat, turn, copy, gate) {
-        Ok(pairs) => Outcome::Reply(Reply::Result(pairs)),
-        Err(_) => Outcome::NoMemory,
-    }
-}
+use crate::takers::Taker;
+use dt_model::{Call, Reply, Turn, Verdict};
 
 /// Makes a call, or runs out of memory.
-fn make_call<R: Wait, G: Gate>(
-    rt: &R,
+fn make_call<T: Taker>(
+    taker: &T,
     engine: &Engine,
-    gate: &G,
     turn: Turn,
     call: &Call,
     seat: &mut Chair,
 ) -> Outcome
     requires engine { BelongsTo seat.old engine.now }
+    requires unstopped { (T.waits ≡ true) ⊎ OwnsAll seat.old }
     requires ready { CanMake (entry_at turn call.now) seat.old }
     ensures came { CameTo (entry_at turn call.now) seat.old result seat.new }
 {
     match call {
-        Call::Get(cell) => {
-            let value = engine.get(rt, seat, turn, cell.copy(), gate);
-            Outcome::Reply(Reply::Value(value))
-        }
-        Call::Batch(updates) => make_batch(rt, engine, gate, turn, updates, seat),
-        Call::Query(stmt) => make_query(rt, engine, gate, turn, stmt.get(), seat),
+        Call::Get(cell) => match engine.read(taker, seat, turn, cell.copy()) {
+            Ok(value) => Outcome::Reply(Reply::Value(value)),
+            Err(_) => unreachable!(),
+        },
+        Call::Batch(updates) => match engine.make(taker, seat, turn, updates) {
+            Ok(()) => Outcome::Reply(Reply::Done),
+            Err(Fault::Full) => Outcome::NoMemory,
+            Err(Fault::Held(_)) => unreachable!(),
+        },
+        Call::Query(stmt) => match engine.evaluate(taker, seat, turn, stmt.get()) {
+            Ok(pairs) => Outcome::Reply(Reply::Result(pairs)),
+            Err(Fault::Full) => Outcome::NoMemory,
+            Err(Fault::Held(_)) => unreachable!(),
+        },
     }
 }
 
 /// Runs a line: makes its call, or answers its refusal.
-fn run_line<R: Wait, G: Gate>(
-    rt: &R,
+fn run_line<T: Taker>(
+    taker: &T,
     engine: &Engine,
-    gate: &G,
     turn: Turn,
     verdict: &Verdict,
     seat: &mut Chair,
 ) -> Outcome
     requires engine { BelongsTo seat.old engine.now }
+    requires unstopped { (T.waits ≡ true) ⊎ OwnsAll seat.old }
     requires next { IsNext turn seat.old }
     requires idle { seat.old.held ≡ [] }
     requires valid { IsTrue (line_is_valid engine.now.config.world.decls verdict.now) }
     ensures line { RunsLine turn verdict.now seat.old result seat.new }
 {
     match verdict {
-        Verdict::Accepted(call) => make_call(rt, engine, gate, turn, call, seat),
+        Verdict::Accepted(call) => make_call(taker, engine, turn, call, seat),
         Verdict::Refused(refusal) => Outcome::refused(refusal),
     }
 }
 
-/// Runs the script of one of the seat's sessions, and adds the outcome of each line.
-pub fn run_script<R: Wait, G: Gate>(
-    rt: &R,
+/// Runs the script of one of the seat's sessions, and adds the outcome of each line. The taker waits, or the seat owns all
+/// sessions: else a call could be stopped.
+pub fn run_script<T: Taker>(
+    taker: &T,
     engine: &Engine,
-    gate: &G,
     session: u32,
     script: &[Verdict],
     seat: &mut Chair,
     lines: &mut Lines,
 )
     requires engine { BelongsTo seat.old engine.now }
+    requires unstopped { (T.waits ≡ true) ⊎ OwnsAll seat.old }
     requires session { OwnsSession seat.old session }
     requires idle { seat.old.held ≡ [] }
     requires fresh { IsFresh session seat.old.seen }
@@ -125,7 +89,7 @@ pub fn run_script<R: Wait, G: Gate>(
             session,
             number: i as u32 + 1,
         };
-        let outcome = run_line(rt, engine, gate, turn, verdict, seat);
+        let outcome = run_line(taker, engine, turn, verdict, seat);
         lines.push(outcome);
     }
 }

@@ -1,28 +1,26 @@
 //! What a closed run leaves in each tensor.
-ghost use Rattle.std.specs.Prelude.{◌≡◌, ◌<◌, List, Some, length, slice_get, IfOk, OnOk, IsTrue};
+ghost use Rattle.std.specs.Prelude.{◌≡◌, ◌<◌, List, Some, length, slice_get, IfOk, IsTrue};
 ghost use Rattle.dt_model.specs.Runs.{contents_after};
 ghost use Rattle.dt_model.specs.Statements.{all_below, nonzeros};
 ghost use Rattle.dt_model.specs.Tensors.{dims_of};
 ghost use Rattle.dt_model.specs.Worlds.{decls_are_valid};
 ghost use Rattle.dt_model.specs.declared.calls.Entry.{Entry};
 ghost use Rattle.dt_model.specs.declared.replies.World.{World};
-ghost use Rattle.fiber_store.specs.Stores.{StoreState};
 ghost use Rattle.sessions.specs.Closing.{AreStoresAfter};
-ghost use Rattle.sessions.specs.HeldTables.{AddsFiber};
 
-use crate::fiber_rows::add_fiber;
-use dt_model::{Decls, NoMemory, Nonzeros, total_latches};
+use crate::fiber_rows::{Fibers, rows_of};
+use dt_model::{Decls, NoMemory, Nonzeros};
 use fiber_latch::Closed;
 use fiber_store::FiberStore;
 use std::alloc::Global;
 
-/// Puts the nonzeros of the store of a latch at the end.
-fn add_closed(rows: &mut Nonzeros, closed: &Closed<FiberStore>, latch: u32) -> Result<(), NoMemory>
-    ensures ok { OnOk result ((s : StoreState) → slice_get closed.now.stores.items latch ≡ Some s → AddsFiber rows.old rows.new s) }
-{
-    match closed.store(latch) {
-        Some(store) => add_fiber(rows, store),
-        None => Ok(()),
+impl Fibers for Closed<FiberStore> {
+    ghost use Rattle.std.specs.Prelude.{◌≡◌, Some, slice_get};
+
+    ghost has = { λ closed l s. slice_get closed.stores.items l ≡ Some s };
+
+    fn store(&self, latch: u32) -> Option<&FiberStore> {
+        self.store(latch)
     }
 }
 
@@ -39,12 +37,5 @@ pub fn nonzeros_of(
     ensures value { IfOk result (λ pairs. (w : World) (seen : List Entry) → w.decls ≡ decls.now → AreStoresAfter w seen closed.now.stores.items
         → pairs ≡ nonzeros (contents_after w seen tensor) (all_below (dims_of decls.now tensor))) }
 {
-    let tensors = decls.tensors.as_slice();
-    let first = total_latches(&tensors[..tensor as usize]);
-    let end = first + tensors[tensor as usize].latches;
-    let mut rows = Nonzeros::new(alloc);
-    for latch in first..end {
-        add_closed(&mut rows, closed, latch)?;
-    }
-    Ok(rows)
+    rows_of(alloc, decls, closed, tensor)
 }

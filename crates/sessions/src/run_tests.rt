@@ -24,7 +24,7 @@ use std::test::Fail;
 use std::thread::Threads;
 
 /// A name of one byte.
-fn named(byte: u8) -> Result<Name, NoMemory>
+pub(crate) fn named(byte: u8) -> Result<Name, NoMemory>
     ensures value { IfOk result (λ n. n ≡ byte ∷ []) }
 {
     match Name::new(&[byte]) {
@@ -51,7 +51,7 @@ fn vector(name: u8, dimension: u32, latches: u32) -> Result<TensorDecl, NoMemory
 }
 
 /// The tensors v of dimension 128 with 64 latches and w of dimension 8 with 4, and nothing loaded.
-fn two_vectors(alloc: Global) -> Result<World, NoMemory>
+pub(crate) fn two_vectors(alloc: Global) -> Result<World, NoMemory>
     ensures value { IfOk result (λ w. w ≡ two_vectors) }
     ensures valid { IfOk result (λ w. IsValid w) }
 {
@@ -71,7 +71,7 @@ fn two_vectors(alloc: Global) -> Result<World, NoMemory>
 }
 
 /// An engine over the two tensors, and the seat of all sessions.
-fn opened(alloc: Global, sessions: u32, calls: u32) -> Result<(Engine, Chair), NoMemory>
+pub(crate) fn opened(alloc: Global, sessions: u32, calls: u32) -> Result<(Engine, Chair), NoMemory>
     requires sessions { (1 ≤ sessions) × (sessions ≤ 16) }
     requires calls { (1 ≤ calls) × (calls ≤ 65536) }
     ensures opened { IfOk result (λ r. IsOpened sessions calls r.0 r.1) }
@@ -81,7 +81,7 @@ fn opened(alloc: Global, sessions: u32, calls: u32) -> Result<(Engine, Chair), N
 }
 
 /// The cell of v at a coordinate.
-fn cell(at: u32) -> Cell
+pub(crate) fn cell(at: u32) -> Cell
     requires at { at < 128 }
     ensures valid { cell_is_valid two_vectors.decls result ≡ true }
 {
@@ -94,7 +94,7 @@ fn cell(at: u32) -> Cell
 }
 
 /// An add of a value at a coordinate.
-fn add(at: u32, value: u64) -> Update
+pub(crate) fn add(at: u32, value: u64) -> Update
     requires at { at < 128 }
     ensures valid { cell_is_valid two_vectors.decls (update_cell result) ≡ true }
 {
@@ -105,7 +105,7 @@ fn add(at: u32, value: u64) -> Update
 }
 
 /// A set of a value at a coordinate.
-fn set(at: u32, value: u64) -> Update
+pub(crate) fn set(at: u32, value: u64) -> Update
     requires at { at < 128 }
     ensures valid { cell_is_valid two_vectors.decls (update_cell result) ≡ true }
 {
@@ -116,7 +116,7 @@ fn set(at: u32, value: u64) -> Update
 }
 
 /// A set of a value in w.
-fn set_w(at: u32, value: u64) -> Update
+pub(crate) fn set_w(at: u32, value: u64) -> Update
     requires at { at < 8 }
     ensures valid { cell_is_valid two_vectors.decls (update_cell result) ≡ true }
 {
@@ -278,7 +278,7 @@ fn some_script(alloc: Global, session: u32, count: u32) -> Result<Verdicts, NoMe
 }
 
 /// A script for each session, of so many lines.
-fn some_scripts(alloc: Global, sessions: u32, count: u32) -> Result<Scripts, NoMemory>
+pub(crate) fn some_scripts(alloc: Global, sessions: u32, count: u32) -> Result<Scripts, NoMemory>
     requires small { (sessions ≤ 16) × (count ≤ 65536) }
     ensures built { IfOk result (λ scripts. AreBuilt sessions count scripts) }
 {
@@ -345,10 +345,12 @@ fn follows<R: Abort>(rt: &R, cells: &mut [u64; 136], call: &Call, outcome: &Outc
     }
 }
 
-/// The outcome of a line fits its verdict; it is a reply where the line is accepted.
+/// The outcome of a line fits its verdict; it is a reply where the line is accepted, unless it ran out of memory, which no
+/// get does.
 fn fits<R: Abort>(rt: &R, verdict: &Verdict, outcome: &Outcome) -> bool {
     match (verdict, outcome) {
         (Verdict::Accepted(_), Outcome::Reply(_)) => true,
+        (Verdict::Accepted(Call::Batch(_) | Call::Query(_)), Outcome::NoMemory) => false,
         (Verdict::Refused(refusal), Outcome::Refused(told)) => {
             assert_eq!(rt; refusal, told);
             false
@@ -357,8 +359,29 @@ fn fits<R: Abort>(rt: &R, verdict: &Verdict, outcome: &Outcome) -> bool {
     }
 }
 
+/// How many lines of a session ran out of memory.
+fn lacking_in(told: &[Outcome]) -> usize {
+    told.iter()
+        .filter(|outcome| matches!(outcome, Outcome::NoMemory))
+        .count()
+}
+
+/// How many lines of all sessions ran out of memory.
+pub(crate) fn lacking(outcomes: &Outcomes) -> usize {
+    let mut count = 0usize;
+    for told in outcomes.as_slice() {
+        count = count.saturating_add(lacking_in(told.as_slice()));
+    }
+    count
+}
+
 /// One thread that makes the calls in the journal's order answers the outcomes, and no other line has a reply.
-fn agrees<R: Abort>(rt: &R, closed: &Closed<FiberStore>, scripts: &Scripts, outcomes: &Outcomes) {
+pub(crate) fn agrees<R: Abort>(
+    rt: &R,
+    closed: &Closed<FiberStore>,
+    scripts: &Scripts,
+    outcomes: &Outcomes,
+) {
     let mut cells = [0u64; 136];
     for entry in closed.journal().as_slice() {
         let turn = entry.turn;
@@ -396,6 +419,7 @@ fn sixteen_sessions_make_one_history(rt: HostRuntime) -> Result<(), Fail> {
     };
     let closed = engine.close(seat);
     agrees(&rt, &closed, &scripts, &outcomes);
+    assert_eq!(rt; lacking(&outcomes), 0);
     Ok(())
 }
 
@@ -409,6 +433,7 @@ fn one_thread_runs_the_sessions_in_turn(rt: HostRuntime) -> Result<(), Fail> {
     };
     let closed = engine.close(seat);
     agrees(&rt, &closed, &scripts, &outcomes);
+    assert_eq!(rt; lacking(&outcomes), 0);
     let mut session = 1;
     for entry in closed.journal().as_slice() {
         assert!(rt; session <= entry.turn.session);
@@ -443,6 +468,7 @@ fn meet<R: Abort + Threads + Wait + Sync>(
     };
     let closed = engine.close(seat);
     agrees(rt, &closed, scripts, &outcomes);
+    assert_eq!(rt; lacking(&outcomes), 0);
     Ok(gate.all_met())
 }
 
@@ -454,6 +480,8 @@ fn two_sessions_hold_their_fibers_at_once(rt: HostRuntime) -> Result<(), Fail> {
     let batch = two(alloc, set_w(0, 1), set_w(7, 2))?;
     let both = two_scripts(alloc, query(alloc)?, batch)?;
     assert!(rt; meet(&rt, alloc, &both, 100_000_000)?);
+    let reads = two_scripts(alloc, get(1), one(alloc, set(3, 5)))?;
+    assert!(rt; meet(&rt, alloc, &reads, 100_000_000)?);
     Ok(())
 }
 
@@ -464,6 +492,8 @@ fn two_sessions_never_hold_one_fiber(rt: HostRuntime) -> Result<(), Fail> {
     assert!(rt; !meet(&rt, alloc, &sets, 100_000)?);
     let reads = two_scripts(alloc, query(alloc)?, one(alloc, add(127, 1)))?;
     assert!(rt; !meet(&rt, alloc, &reads, 100_000)?);
+    let gets = two_scripts(alloc, get(0), one(alloc, set(1, 6)))?;
+    assert!(rt; !meet(&rt, alloc, &gets, 100_000)?);
     Ok(())
 }
 

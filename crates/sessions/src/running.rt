@@ -12,6 +12,7 @@ use crate::engine::{Chair, Engine};
 use crate::lines::run_script;
 use crate::outcomes::{Lines, Outcome, Outcomes};
 use crate::rooms::{Rooms, rooms_for};
+use crate::takers::Waiting;
 use dt_model::{Back, List, NoMemory, Scripts};
 use dt_outside::Gate;
 use std::collections::VecDeque;
@@ -44,9 +45,8 @@ fn run_session<R: Wait, G: Gate>(
         unreachable!()
     };
     run_script(
-        rt,
+        &Waiting { rt, gate },
         engine,
-        gate,
         session,
         script.as_slice(),
         &mut run.seat,

@@ -1,4 +1,4 @@
-use Rattle.std.proofs.Common.{◌≡◌, ◌<◌, ℕ, length, get_or, rules}
+use Rattle.std.proofs.Common.{◌<◌, length, get_or, rules}
 use Rattle.index_check.proofs.Firsts.{fault_free, fault_held}
 use Rattle.index_check.proofs.places.+dimension_fault.Goals as goal
 

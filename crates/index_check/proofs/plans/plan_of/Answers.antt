@@ -1,6 +1,6 @@
-use Rattle.std.proofs.Common.{◌≡◌, ◌≤◌, ◌++◌, [], true, length, ap, sym, ◌∙◌, arith}
+use Rattle.std.proofs.Common.{◌++◌, true, length, ap, ◌∙◌, arith}
 use Rattle.dt_model.specs.Statements.{terms_under}
-use Rattle.index_check.proofs.Known.{IsSmall, small_parts}
+use Rattle.index_check.proofs.Known.{small_parts}
 use Rattle.index_check.proofs.plans.plan_of.Goals as goal
 
 pub kernels_of-requires-clause-few : goal.kernels_of-requires-clause-few

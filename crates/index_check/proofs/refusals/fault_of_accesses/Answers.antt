@@ -1,5 +1,5 @@
-use Rattle.std.proofs.Common.{◌≡◌, List, [], ℕ, map, None, ap, sym, ◌∙◌}
-use Rattle.dt_model.specs.Refusals.{or_else, first_of_all, undeclared_fault, rank_fault, dimension_fault, repeated_fault}
+use Rattle.std.proofs.Common.{List, [], ℕ, map, ap, sym, ◌∙◌}
+use Rattle.dt_model.specs.Refusals.{first_of_all, undeclared_fault, rank_fault, dimension_fault, repeated_fault}
 use Rattle.index_check.proofs.Joining.{or_none}
 use Rattle.index_check.proofs.refusals.fault_of_accesses.Goals as goal
 

@@ -1,4 +1,4 @@
-use Rattle.std.proofs.Common.{◌≡◌, ◌++◌, not, ap, sym, ◌∙◌}
+use Rattle.std.proofs.Common.{◌++◌, not, ap, ◌∙◌}
 use Rattle.std.proofs.lemmas.Result.{on_ok_weaker}
 use Rattle.dt_model.specs.Statements.{terms_under}
 use Rattle.dt_model.proofs.StatementsLemmas.{terms_under-Plus, terms_under-Minus}

@@ -1,4 +1,4 @@
-use Rattle.std.proofs.Common.{◌≡◌, ap, sym, ◌∙◌}
+use Rattle.std.proofs.Common.{ap, ◌∙◌}
 use Rattle.dt_model.specs.Refusals.{covers}
 use Rattle.dt_model.proofs.RefusalsLemmas.{covers-Plus, covers-Minus, covers-Times}
 use Rattle.index_check.proofs.Joining.{and_then, or_then}

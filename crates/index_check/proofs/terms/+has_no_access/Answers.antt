@@ -1,4 +1,4 @@
-use Rattle.std.proofs.Common.{◌≡◌, ap, sym, ◌∙◌}
+use Rattle.std.proofs.Common.{ap, ◌∙◌}
 use Rattle.index_check.specs.Parts.{has_no_access}
 use Rattle.index_check.proofs.Laws.{none-Plus, none-Minus, none-Times}
 use Rattle.index_check.proofs.Joining.{and_then}

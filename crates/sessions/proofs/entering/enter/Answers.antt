@@ -1,8 +1,10 @@
-use Rattle.std.proofs.Common.{arith, ℕ, List, ◌∷◌, ◌++◌, ◌∙◌, sym, ap, subst}
+use Rattle.std.proofs.Common.{arith, ℕ, List, ◌==◌, [], ◌∷◌, ◌∙◌, sym, ap, subst}
 use Rattle.fiber_latch.specs.declared.view.TableConfig.{TableConfig}
+use Rattle.fiber_latch.specs.Seats.{SeatState}
 use Rattle.sessions.specs.Entering.{IsAboveHeld}
-use Rattle.sessions.proofs.CallingLemmas.{IsNext-taken, IsNext-conflicts}
+use Rattle.sessions.proofs.CallingLemmas.{Extends-conflicts, IsNext-taken}
 use Rattle.sessions.proofs.EnteringLemmas.{HasEntered-written}
+use Rattle.sessions.proofs.NotingLemmas.{Notes-later}
 use Rattle.sessions.proofs.entering.enter.Goals as goal
 
 pub take-requires-clause-latch : goal.take-requires-clause-latch
@@ -13,17 +15,18 @@ take-requires-clause-latch g c =
 
 pub write-requires-clause-next : goal.write-requires-clause-next
 write-requires-clause-next g c =
-    let taken = c.take.ensures.value in
+    let taken = c.in-Ok-Journal.ensures.ok in
     let old = c.args.seat.now in
-    let met : List (ℕ × ℕ) = old.conflicts ++ taken.conflicts in
-    IsNext-taken c.args.entry.turn (record old { conflicts = met }) c.take.new.seat ((c.args.end, c.args.entry.turn.session)
-    ∷ old.held) met taken.got.rest taken.got.grown (IsNext-conflicts c.args.entry.turn old met c.requires.ready.next)
+    IsNext-taken c.args.entry.turn old c.take.new.seat ((c.args.end, c.args.entry.turn.session) ∷ old.held) taken.0 taken.1.rest
+    (Extends-conflicts old taken.0 old.seen c.take.new.seat.seen taken.1.grown) c.requires.ready.next
 
-pub returns : goal.returns
-returns g c =
-    let taken = c.take.ensures.value in
-    let old = c.args.seat.now in
-    record {
-      entered = HasEntered-written c.args.entry old c.take.new.seat c.write.new.seat (c.args.end, c.args.entry.turn.session) (old.conflicts
-          ++ taken.conflicts) taken.got.rest taken.got.grown c.write.ensures.seat;
-    }
+pub returns-in-Ok-Journal-clause-ok : goal.returns-in-Ok-Journal-clause-ok
+returns-in-Ok-Journal-clause-ok g c =
+    let taken = c.in-Ok-Journal.ensures.ok in
+    HasEntered-written c.args.entry c.args.seat.now c.take.new.seat c.write.new.seat (c.args.end, c.args.entry.turn.session) taken.0 taken.1.rest
+    taken.1.grown c.write.ensures.seat
+
+pub returns-in-Ok-Journal-clause-notes : goal.returns-in-Ok-Journal-clause-notes
+returns-in-Ok-Journal-clause-notes g c =
+    Notes-later g.T.Taker.waits (λ (l : ℕ). l == c.args.end) [] c.args.seat.now c.take.new.seat c.write.new.seat
+    (ap (λ (s : SeatState). s.conflicts) c.write.ensures.seat) c.in-Ok-Journal.ensures.notes

@@ -8,7 +8,8 @@ use Rattle.sessions.proofs.held_tables.answer_of.Goals as goal
 
 pub returns : goal.returns
 returns c = record {
-  value = IfOk-weaker c.evaluate.result _ _ (λ pairs answers m fibers holds. answers m (AreTablesOf-held c.args.decls.now m c.args.hands.now c.args.stmt.now
+  value = IfOk-weaker c.evaluate.result _ _ (λ pairs answers m fibers holds. answers m (AreTablesOf-held c.args.decls.now m c.args.hands.now.items
+      c.args.stmt.now
       c.add_held_tables.new.tables.entries c.in_ok-add_held_tables.ensures.tables c.in_ok-add_held_tables.ensures.has fibers holds)) c.evaluate.ensures.value;
 }
 

@@ -1,6 +1,6 @@
 use Rattle.std.proofs.Common.{sym, ◌∙◌, arith}
 use Rattle.sessions.proofs.RunningLemmas.{AreRunnable-line, AreRunnable-seat}
-use Rattle.sessions.proofs.ScriptLinesLemmas.{IsAtLine-none, IsAtLine-next, IsAtLine-world, one_line_more}
+use Rattle.sessions.proofs.ScriptLinesLemmas.{IsAtLine-none, IsAtLine-next, IsAtLine-unstopped, IsAtLine-world, one_line_more}
 use Rattle.sessions.proofs.lines.run_script.Goals as goal
 
 pub loop-i-init : goal.loop-i-init
@@ -9,6 +9,11 @@ loop-i-init g c = record {
   outcomes = c.requires.room.empty;
   spare = omega arith;
 }
+
+pub run_line-outcome-requires-clause-unstopped : goal.run_line-outcome-requires-clause-unstopped
+run_line-outcome-requires-clause-unstopped g c =
+    IsAtLine-unstopped c.args.script.now c.args.session c.loop-i.i c.args.seat.now c.loop-i.seat c.requires.session c.loop-i.invariant.at g.T.Taker.waits
+    c.requires.unstopped
 
 pub run_line-outcome-requires-clause-next : goal.run_line-outcome-requires-clause-next
 run_line-outcome-requires-clause-next g c =

@@ -1,26 +1,53 @@
-use Rattle.std.proofs.Common.{◌==◌, sym, subst}
-use Rattle.std.specs.List.{list_any}
-use Rattle.dt_model.specs.Latches.{latch_of_cell, needs}
-use Rattle.dt_model.specs.Tensors.{latch_count}
-use Rattle.dt_model.specs.Verdicts.{update_cell}
-use Rattle.sessions.specs.Needing.{IsLeastFrom}
-use Rattle.sessions.proofs.NeedingLemmas.{names_latch}
+use Rattle.std.proofs.Common.{ℕ, ◌≡◌, ◌<◌, ◌∙◌, ◌≤◌, ◌+◌, Some, None, List, length, drop, get_or, ap, sym, arith}
+use Rattle.std.proofs.lemmas.List.{get_or_default}
+use Rattle.sessions.specs.declared.needing.LatchRange.{LatchRange}
+use Rattle.sessions.specs.Needing.{covers}
+use Rattle.sessions.proofs.NeedingLemmas.{IsLeastFrom-as, IsLeastFrom-none, IsLeastFrom-range, covers-past}
 use Rattle.sessions.proofs.needing.next_latch.Goals as goal
 
-pub returns-in-Batch : goal.returns-in-Batch
-returns-in-Batch c =
-    let d = c.args.decls.now in
+abbrev range_at : List LatchRange → ℕ → LatchRange
+range_at ranges i = get_or ranges i (record { first = 0; end = 0 })
+
+here : (ranges : List LatchRange) (i : ℕ) → i < length ranges → range_at ranges i ≡ get_or ranges i (range_at ranges i)
+here ranges i within = get_or_default ranges i (record { first = 0; end = 0 }) (range_at ranges i) within
+
+pub returns-in-Some-clause-least : goal.returns-in-Some-clause-least
+returns-in-Some-clause-least c =
+    let ranges = c.args.ranges.now in
+    let i = c.loop-index.index in
+    let r : LatchRange = range_at ranges i in
+    IsLeastFrom-as (covers (drop i ranges)) (covers (drop c.args.place.now ranges)) c.args.from (Some c.in-Some.latch) c.loop-index.invariant.left
+    (IsLeastFrom-range ranges i c.args.from r c.loop-index-test.true (here ranges i c.loop-index-test.true) c.in-Some.latch c.requires.ascending
+    c.in-Some.ensures.least)
+
+pub returns-in-Some-clause-rest : goal.returns-in-Some-clause-rest
+returns-in-Some-clause-rest c = c.loop-index.invariant.left
+
+pub loop-index-preserved : goal.loop-index-preserved
+loop-index-preserved c =
+    let ranges = c.args.ranges.now in
+    let i = c.loop-index.index in
+    let r : LatchRange = range_at ranges i in
     record {
-      least = subst (λ call. IsLeastFrom (needs d call) (latch_count d) c.args.from c.least_of_updates.result) (sym c.in-Batch.is)
-          (subst (λ us. IsLeastFrom (λ l. list_any (λ u. latch_of_cell d (update_cell u) == l) us) (latch_count d) c.args.from c.least_of_updates.result)
-          c.as_slice.ensures.value c.least_of_updates.ensures.least);
+      within = omega arith;
+      left = λ k b.
+          covers-past ranges i c.args.from r c.loop-index-test.true (here ranges i c.loop-index-test.true) c.in_default.ensures.least k b
+          ∙ c.loop-index.invariant.left k b;
     }
 
-pub returns-in-Query : goal.returns-in-Query
-returns-in-Query c =
-    let d = c.args.decls.now in
-    record {
-      least = subst (λ call. IsLeastFrom (needs d call) (latch_count d) c.args.from c.least_of_expression.result) (sym c.in-Query.is)
-          (subst (λ s. IsLeastFrom (names_latch d s.right) (latch_count d) c.args.from c.least_of_expression.result)
-          c.get.ensures c.least_of_expression.ensures.least);
-    }
+pub returns-clause-least : goal.returns-clause-least
+returns-clause-least c =
+    let ranges = c.args.ranges.now in
+    let i = c.loop-index.index in
+    let test = c.loop-index-test.false in
+    IsLeastFrom-as (covers (drop i ranges)) (covers (drop c.args.place.now ranges)) c.args.from None c.loop-index.invariant.left
+    (IsLeastFrom-none ranges i c.args.from (omega arith))
+
+pub returns-clause-rest : goal.returns-clause-rest
+returns-clause-rest c = λ k b.
+    let ranges = c.args.ranges.now in
+    let i = c.loop-index.index in
+    let test = c.loop-index-test.false in
+    let all = c.loop-index.invariant.within in
+    let at : length ranges ≡ i = omega arith in
+    ap (λ (j : ℕ). covers (drop j ranges) k) at ∙ c.loop-index.invariant.left k b

@@ -1,64 +1,10 @@
-use Rattle.std.proofs.Common.{◌≡◌, ◌≤◌, ◌<◌, ◌+◌, ℕ, arith, ap, sym, subst}
-use Rattle.std.proofs.lemmas.Grind.{common_steps}
+use Rattle.std.proofs.lemmas.Result.{IfOk-weaker}
 use Rattle.dt_model.specs.Runs.{contents_after}
-use Rattle.dt_model.specs.Tensors.{first_latch, latches_of_tensor}
-use Rattle.sessions.proofs.HeldTablesLemmas.{closed_store}
-use Rattle.sessions.proofs.FiberTables.{IsTableBelow, IsTableBelow-first, IsTableBelow-next, IsTableBelow-all}
-use Rattle.sessions.proofs.LatchNumbers.{first_latch-sum, latches_of_tensor-at, latches_below}
+use Rattle.sessions.proofs.HeldTablesLemmas.{AreFibersFor-closed}
 use Rattle.sessions.proofs.results.nonzeros_of.Goals as goal
 
-pub loop-latch-init : goal.loop-latch-init
-loop-latch-init c =
-    let d = c.args.decls.now in
-    let first : c.total_latches-first.result ≡ first_latch d c.args.tensor =
-    first_latch-sum d c.as_slice-tensors.result.now c.args.tensor c.total_latches-first.result c.as_slice-tensors.ensures.value
-    (grind (arith, common_steps)) in (
-      omega arith,
-      omega arith,
-      λ w seen same are. subst (λ k. IsTableBelow d (contents_after w seen) c.args.tensor k c.new-rows.result) (sym first)
-          (subst (λ rows. IsTableBelow d (contents_after w seen) c.args.tensor (first_latch d c.args.tensor) rows) (sym c.new-rows.ensures.value)
-          (IsTableBelow-first d (contents_after w seen) c.args.tensor)),
-    )
-
-pub loop-latch-preserved : goal.loop-latch-preserved
-loop-latch-preserved c =
-    let d = c.args.decls.now in
-    let x = c.index-tensors-tensor.result in
-    let k : ℕ = c.loop-latch.latch in
-    let inv = c.loop-latch.invariant in
-    let first : c.total_latches-first.result ≡ first_latch d c.args.tensor =
-    first_latch-sum d c.as_slice-tensors.result.now c.args.tensor c.total_latches-first.result c.as_slice-tensors.ensures.value (grind (arith, common_steps)) in
-    let many : x.latches ≡ latches_of_tensor d c.args.tensor =
-    latches_of_tensor-at d c.as_slice-tensors.result.now c.args.tensor x c.as_slice-tensors.ensures.value (grind (arith, common_steps))
-    c.index-tensors-tensor.is in
-    let test = c.loop-latch-test.true in
-    let item = ap (λ y. y.latches) c.index-tensors-tensor.is in
-    let begins = inv.0 in
-    let low : first_latch d c.args.tensor ≤ k = omega (arith, first, begins) in
-    let high : k < first_latch d c.args.tensor + latches_of_tensor d c.args.tensor = omega (arith, first, many, test, item) in (
-      omega arith,
-      omega arith,
-      λ w seen same are.
-          let s = closed_store d w seen c.args.closed.now.stores.items k same are (omega (arith, high, latches_below d c.args.tensor c.requires.declared)) in
-          IsTableBelow-next d (contents_after w seen) c.args.tensor k c.loop-latch.rows c.add_closed.new.rows s.0 c.requires.declared low high s.2
-          (c.in_ok-add_closed.ensures.ok s.0 s.1) (inv.2 w seen same are),
-    )
-
 pub returns : goal.returns
-returns c =
-    let d = c.args.decls.now in
-    let x = c.index-tensors-tensor.result in
-    let inv = c.loop-latch.invariant in
-    let first : c.total_latches-first.result ≡ first_latch d c.args.tensor =
-    first_latch-sum d c.as_slice-tensors.result.now c.args.tensor c.total_latches-first.result c.as_slice-tensors.ensures.value (grind (arith, common_steps)) in
-    let many : x.latches ≡ latches_of_tensor d c.args.tensor =
-    latches_of_tensor-at d c.as_slice-tensors.result.now c.args.tensor x c.as_slice-tensors.ensures.value (grind (arith, common_steps))
-    c.index-tensors-tensor.is in
-    let test = c.loop-latch-test.false in
-    let item = ap (λ y. y.latches) c.index-tensors-tensor.is in
-    let most = inv.1 in
-    let end : c.loop-latch.latch ≡ first_latch d c.args.tensor + latches_of_tensor d c.args.tensor = omega (arith, first, many, test, most, item) in
-    record {
-      value = λ w seen same are. IsTableBelow-all d (contents_after w seen) c.args.tensor c.loop-latch.rows c.requires.decls c.requires.declared
-          (subst (λ n. IsTableBelow d (contents_after w seen) c.args.tensor n c.loop-latch.rows) end (inv.2 w seen same are));
-    }
+returns c = record {
+  value = IfOk-weaker c.rows_of.result _ _ (λ pairs is w seen same are. is (contents_after w seen) (AreFibersFor-closed c.args.decls.now w seen
+      c.args.closed.now.stores.items c.args.tensor c.requires.declared same are)) c.rows_of.ensures.value;
+}

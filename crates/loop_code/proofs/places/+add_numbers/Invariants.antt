@@ -1,0 +1,4 @@
+use Rattle.loop_code.proofs.places.+add_numbers.Given as goal
+
+abbrev pub decreases-add_numbers : goal.decreases-add_numbers
+decreases-add_numbers l = l.count

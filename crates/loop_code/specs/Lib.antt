@@ -1,0 +1,9 @@
+pub mod Places
+pub mod Values
+pub mod Terms
+pub mod KernelExpressions
+pub mod Answers
+pub mod AbsentOperands
+pub mod Tables
+pub mod Kernels
+pub mod Codes

@@ -1,0 +1,10 @@
+pub mod Laws
+pub mod LatticesLemmas
+pub mod Rises
+pub mod Bits
+pub mod Rests
+pub mod RestValues
+pub mod Kept
+pub mod Standing
+pub mod PointsLemmas
+pub mod SoundnessLemmas

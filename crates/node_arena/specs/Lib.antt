@@ -1,0 +1,9 @@
+pub mod Kinds
+pub mod Packing
+pub mod Arenas
+pub mod Stores
+pub mod Trees
+pub mod Walks
+pub mod Conforming
+pub mod Structures
+pub mod Modes

@@ -1,0 +1,185 @@
+//! Flat runs under numbers, with some prepared for later.
+ghost use Rattle.std.specs.Prelude.{◌≡◌, ◌≢◌, ◌⊎◌, ◌<◌, ◌≤◌, ◌+◌, ◌-◌, ℕ, [], None, Some, IsSome, IsSomeAnd, IfSome, IfOk, OnOk, OnErr, All, length, map, slice_get, slice_index_or, slice_set, vec_len};
+ghost use Rattle.std.specs.List.{insert, remove};
+ghost use Rattle.node_arena.specs.Arenas.{RunState, RunsState, IsRunChange};
+ghost use Rattle.node_arena.specs.Packing.{unpacked};
+ghost use Rattle.node_arena.specs.Stores.{usable};
+ghost use Rattle.slab.specs.Slab.{slab_len};
+
+use crate::elements::Elem;
+use crate::flat_runs::FlatRun;
+use crate::numbers::RunId;
+use crate::packing::Packed;
+use dt_model::NoMemory;
+use slab::Slab;
+use std::alloc::Global;
+use std::marker::Model;
+
+/// The flat runs of an arena, and empty ones of one room that can be given out without memory.
+#[derive(Drop)]
+pub(crate) struct Runs {
+    alloc: Global,
+    slab: Slab<FlatRun>,
+    prepared: Vec<FlatRun>,
+    room: usize,
+}
+
+impl Model for Runs {
+    ghost use Rattle.std.specs.Prelude.{◌≡◌, ◌-◌, ◌≤◌, [], All, vec_len};
+    ghost use Rattle.slab.specs.Slab.{slab_len};
+    ghost use Rattle.node_arena.specs.Arenas.{RunsState};
+    ghost use Rattle.node_arena.specs.Stores.{usable};
+
+    ghost Value = { RunsState };
+
+    ghost view = { λ a. record { slots = a.slab.slots; spare = vec_len a.prepared; room = a.room } };
+
+    ghost invariant = { λ a. (vec_len a.prepared ≤ usable a.slab.capacity - slab_len a.slab) × All (λ r. r ≡ record { elems = []; room = a.room }) a.prepared.items };
+}
+
+impl Runs {
+    /// No runs.
+    pub(crate) fn new(alloc: Global) -> Runs
+        ensures value { result ≡ record { slots = []; spare = 0; room = 0 } }
+    {
+        Runs {
+            alloc,
+            slab: Slab::new(alloc),
+            prepared: Vec::new(alloc),
+            room: 0,
+        }
+    }
+
+    /// Prepares at least so many runs, each with at least that room.
+    pub(crate) fn reserve(&mut self, runs: u32, room: u32) -> Result<(), NoMemory>
+        ensures ok { OnOk result ((runs ≤ self.new.spare) × (room ≤ self.new.room)) }
+        ensures kept { OnOk result ((self.old.spare ≤ self.new.spare) × (self.old.room ≤ self.new.room)) }
+        ensures err { OnErr result ((self.new ≡ self.old) ⊎ (self.new ≡ record self.old { spare = 0 })) }
+        ensures slots { self.new.slots ≡ self.old.slots }
+    {
+        let spare = self.prepared.len();
+        let runs = spare.max(runs as usize);
+        let room = self.room.max(room as usize);
+        if runs == spare && room == self.room {
+            return Ok(());
+        }
+        let prepared = prepared(self.alloc, runs, room)?;
+        grow(&mut self.slab, runs);
+        let numbers = numbers_left(&self.slab);
+        if numbers < spare {
+            self.prepared = Vec::new(self.alloc);
+        }
+        if numbers < runs {
+            return Err(NoMemory);
+        }
+        self.prepared = prepared;
+        self.room = room;
+        Ok(())
+    }
+
+    /// A new number with an empty run, which has the room of the prepared ones.
+    pub(crate) fn make(&mut self) -> RunId
+        requires spare { 0 < self.old.spare }
+        ensures is_new { slice_index_or self.old.slots result None ≡ None }
+        ensures run { IsRunChange self.old self.new result (Some (record { elems = []; room = self.old.room })) }
+        ensures spare { self.new.spare + 1 ≡ self.old.spare }
+    {
+        match self.prepared.pop() {
+            Some(run) => RunId::of(self.slab.insert_reserved(run) as u32),
+            None => unreachable!(),
+        }
+    }
+
+    /// The elements of a run, as they are packed.
+    pub(crate) fn packed(&self, id: RunId) -> &[Packed]
+        requires there { IsSome (slice_index_or self.now.slots id None) }
+        ensures value { IfSome (slice_index_or self.now.slots id None) (λ r. map unpacked result.now ≡ r.elems) }
+    {
+        self.slab[id.number() as usize].packed()
+    }
+
+    /// Puts an element into a run.
+    pub(crate) fn insert(&mut self, id: RunId, place: usize, elem: Elem)
+        requires there { IsSomeAnd (slice_index_or self.old.slots id None) (λ r. (place ≤ length r.elems) × (0 < r.room)) }
+        ensures run { IfSome (slice_index_or self.old.slots id None) (λ r. IsRunChange self.old self.new id (Some (record { elems = insert r.elems place elem; room = r.room - 1 }))) }
+        ensures spare { self.new.spare ≡ self.old.spare }
+    {
+        self.slab[id.number() as usize].insert(place, elem);
+    }
+
+    /// Takes an element out of a run.
+    pub(crate) fn remove(&mut self, id: RunId, place: usize) -> Elem
+        requires there { IsSomeAnd (slice_index_or self.old.slots id None) (λ r. place < length r.elems) }
+        ensures elem { IfSome (slice_index_or self.old.slots id None) (λ r. slice_get r.elems place ≡ Some result) }
+        ensures run { IfSome (slice_index_or self.old.slots id None) (λ r. IsRunChange self.old self.new id (Some (record { elems = remove r.elems place; room = r.room + 1 }))) }
+        ensures spare { self.new.spare ≡ self.old.spare }
+    {
+        self.slab[id.number() as usize].remove(place)
+    }
+
+    /// Puts an element in the place of another.
+    pub(crate) fn replace(&mut self, id: RunId, place: usize, elem: Elem)
+        requires there { IsSomeAnd (slice_index_or self.old.slots id None) (λ r. place < length r.elems) }
+        ensures run { IfSome (slice_index_or self.old.slots id None) (λ r. IsRunChange self.old self.new id (Some (record r { elems = slice_set r.elems place elem }))) }
+        ensures spare { self.new.spare ≡ self.old.spare }
+    {
+        self.slab[id.number() as usize].replace(place, elem);
+    }
+
+    /// Takes room for at least so many more elements of a run.
+    pub(crate) fn grow_run(&mut self, id: RunId, more: u32) -> Result<(), NoMemory>
+        requires there { IsSome (slice_index_or self.old.slots id None) }
+        ensures ok { OnOk result (IfSome (slice_index_or self.old.slots id None) (λ r. IsSomeAnd (slice_index_or self.new.slots id None) (λ q. more ≤ q.room))) }
+        ensures run { IfSome (slice_index_or self.old.slots id None) (λ r. IsSomeAnd (slice_index_or self.new.slots id None) (λ q. (q.elems ≡ r.elems) × (r.room ≤ q.room))) }
+        ensures err { OnErr result (slice_index_or self.new.slots id None ≡ slice_index_or self.old.slots id None) }
+        ensures others { (other : ℕ) → other ≢ id → slice_index_or self.new.slots other None ≡ slice_index_or self.old.slots other None }
+        ensures spare { self.new.spare ≡ self.old.spare }
+        ensures room { self.new.room ≡ self.old.room }
+    {
+        self.slab[id.number() as usize].grow(more as usize)
+    }
+
+    /// Takes a run out.
+    pub(crate) fn free(&mut self, id: RunId)
+        requires there { IsSome (slice_index_or self.old.slots id None) }
+        ensures run { IsRunChange self.old self.new id None }
+        ensures spare { self.new.spare ≡ self.old.spare }
+    {
+        self.slab.remove(id.number() as usize);
+    }
+}
+
+/// So many empty runs, each with that room.
+fn prepared(alloc: Global, runs: usize, room: usize) -> Result<Vec<FlatRun>, NoMemory>
+    ensures len { IfOk result (λ v. vec_len v ≡ runs) }
+    ensures all { IfOk result (λ v. All (λ r. r ≡ record { elems = []; room = room }) v.items) }
+{
+    let mut prepared = Vec::with_capacity(alloc, runs)?;
+    for _count in 0..runs {
+        prepared.push(FlatRun::with_room(alloc, room)?)?;
+    }
+    Ok(prepared)
+}
+
+/// Takes room for so many more numbers, and for as many as there are if that can be had.
+fn grow(slab: &mut Slab<FlatRun>, runs: usize)
+    ensures slots { slab.new.slots ≡ slab.old.slots }
+    ensures capacity { slab.old.capacity ≤ slab.new.capacity }
+{
+    let all = slab.len().max(runs);
+    if slab.reserve(all).is_err() {
+        let _ = slab.reserve(runs);
+    }
+}
+
+/// How many more numbers of 32 bits the slab can give without memory.
+fn numbers_left(slab: &Slab<FlatRun>) -> usize
+    ensures value { result ≡ usable slab.now.capacity - slab_len slab.now }
+{
+    let capacity = slab.capacity();
+    if capacity < 4294967296 {
+        capacity - slab.len()
+    } else {
+        0
+    }
+}

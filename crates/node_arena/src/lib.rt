@@ -1,0 +1,33 @@
+//! Nodes and runs under numbers: a call changes one, and all others stay.
+//!
+//! An `Arena` has the nodes and the flat runs of one mode. `Arena::make`, `put`, `insert`, `remove`, `replace`, `cut` and `set_links`
+//! write one node each, `make_run`, `run_insert`, `run_remove` and `run_replace` one run. What they need is taken before, by `reserve`,
+//! `reserve_runs` and `grow_run`, so none of them takes memory. `kinds_of` gives a schema's kinds with their links by number.
+//! Clauses see a `NodeId` or a `RunId` as its number, and an arena as lists of slots by number, with `spare`, `most` and `room`.
+//! Read `specs/Arenas.antt` first, then `Trees`, `Walks`, `Conforming`, `Structures` and `Modes`.
+//! Numbers, kinds, places and coordinates count from 0. A node has at most `most` elements, 2, 4, 8 or 16, and one link more. A tick is
+//! the write of a node.
+//! Not here: which nodes a schema wants (`specs/Conforming.antt` says which it allows), walks, and insertion into whole structures.
+#![tactic(auto)]
+
+mod arena;
+mod elements;
+mod flat_runs;
+mod flat_slabs;
+mod kinds;
+mod node_links;
+mod node_runs;
+mod node_slabs;
+mod numbers;
+mod packing;
+mod searching;
+mod sized;
+mod stores;
+#[cfg(test)]
+mod tests;
+
+pub use arena::Arena;
+pub use elements::{Elem, Held, MOST_SPINE, Side, Step, Structure, Top};
+pub use kinds::{NodeKind, Shape, kinds_of, root_of};
+pub use numbers::{NodeId, RunId};
+pub use sized::MOST_ELEMENTS;

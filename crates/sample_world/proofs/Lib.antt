@@ -1,0 +1,5 @@
+pub mod CellsLemmas
+pub mod WorldLemmas
+pub mod CallsLemmas
+pub mod SessionSums
+pub mod ContentsLemmas
