@@ -1,5 +1,6 @@
 //! Nodes of each size, flat runs, and the kinds of worked schemas.
-ghost use Rattle.std.specs.Prelude.{◌≡◌, ◌<◌, ◌≤◌, ◌+◌};
+ghost use Rattle.std.specs.Prelude.{◌≡◌, ◌<◌, ◌≤◌, ◌+◌, IsSome};
+ghost use Rattle.node_arena.specs.Arenas.{node_at};
 
 use crate::numbers::{NodeId, RunId};
 use crate::packing::Packed;
@@ -131,6 +132,98 @@ fn is_changed(alloc: Global) -> Result<bool, NoMemory> {
 #[test]
 fn elements_go_in_and_out_of_a_node(rt: HostRuntime) -> Result<(), Fail> {
     assert!(rt; is_changed(rt.alloc())?);
+    Ok(())
+}
+
+/// What is read of a node behind a write: its kind, how many elements and links it has, and its coordinate at place 1.
+type Row = (u32, usize, usize, Option<u32>);
+
+/// Writes a node whole, cuts it and gives it other links, and answers what is read of it after each.
+fn written<L: Ledger>(alloc: Global, blank: Blank) -> Result<(Row, Row, Row, bool), NoMemory>
+    requires name { blank.name ≡ L.name }
+    requires parts { blank.parts ≡ L.parts }
+    requires one { blank.parts ≡ 1 }
+{
+    let mut steps = Steps::<L>::open(blank);
+    let mut arena = Arena::new(alloc, 4);
+    arena.reserve(1)?;
+    let id = arena.make(0, &[elem(5, 5)], &[], &mut steps);
+    let run = [elem(10, 1), elem(20, 2), elem(30, 3)];
+    arena.put(id, 6, &run, &[None, Some(id), None], &mut steps);
+    let put = row(&arena, id);
+    arena.cut(id, 2, &[Some(id)], &mut steps);
+    let cut = row(&arena, id);
+    arena.set_links(id, &[None, Some(id)], &mut steps);
+    let linked = row(&arena, id);
+    let is_link = arena.link(id, 0) == None && arena.link(id, 1) == Some(id);
+    Ok((put, cut, linked, is_link))
+}
+
+/// What is read of a node.
+fn row(arena: &Arena, id: NodeId) -> Row
+    requires there { IsSome (node_at arena.now id) }
+{
+    (
+        arena.kind(id),
+        arena.len(id),
+        arena.link_count(id),
+        arena.coordinate(id, 1),
+    )
+}
+
+/// Whether a node is written as it is meant.
+fn is_written(alloc: Global) -> Result<bool, NoMemory> {
+    let (put, cut, linked, is_link) = written::<Brand>(alloc, Blank::new(1))?;
+    let rows = put == (6, 3, 3, Some(20)) && cut == (6, 2, 1, Some(20));
+    Ok(rows && linked == (6, 2, 2, Some(20)) && is_link)
+}
+
+#[test]
+fn a_node_is_put_and_cut_and_linked(rt: HostRuntime) -> Result<(), Fail> {
+    assert!(rt; is_written(rt.alloc())?);
+    Ok(())
+}
+
+/// Takes one of two nodes out, and answers what is read of the other one, and of one made then.
+fn left<L: Ledger>(alloc: Global, blank: Blank) -> Result<(Row, Row), NoMemory>
+    requires name { blank.name ≡ L.name }
+    requires parts { blank.parts ≡ L.parts }
+    requires one { blank.parts ≡ 1 }
+{
+    let mut steps = Steps::<L>::open(blank);
+    let mut arena = Arena::new(alloc, 2);
+    arena.reserve(3)?;
+    let kept = arena.make(1, &[elem(10, 1), elem(20, 2)], &[], &mut steps);
+    let gone = arena.make(2, &[elem(30, 3)], &[Some(kept)], &mut steps);
+    arena.free(gone);
+    let row_kept = row(&arena, kept);
+    let next = arena.make(3, &[], &[None, Some(kept)], &mut steps);
+    Ok((row_kept, row(&arena, next)))
+}
+
+/// Whether a node is left when another one is taken out.
+fn is_left(alloc: Global) -> Result<bool, NoMemory> {
+    let (kept, next) = left::<Brand>(alloc, Blank::new(1))?;
+    Ok(kept == (1, 2, 0, Some(20)) && next == (3, 0, 2, None))
+}
+
+#[test]
+fn a_node_is_left_when_another_is_taken_out(rt: HostRuntime) -> Result<(), Fail> {
+    assert!(rt; is_left(rt.alloc())?);
+    Ok(())
+}
+
+#[test]
+fn a_run_is_left_when_another_is_taken_out(rt: HostRuntime) -> Result<(), Fail> {
+    let mut arena = Arena::new(rt.alloc(), 1);
+    arena.reserve_runs(2, 1)?;
+    let kept = arena.make_run();
+    arena.run_insert(kept, 0, elem(10, 1));
+    let gone = arena.make_run();
+    arena.free_run(gone);
+    assert_eq!(rt; arena.run_len(kept), 1);
+    assert_eq!(rt; arena.run_elem(kept, 0), Some(elem(10, 1)));
+    assert_eq!(rt; arena.run_place(kept, 11), 1);
     Ok(())
 }
 
