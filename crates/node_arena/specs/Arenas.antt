@@ -1,5 +1,5 @@
 -- What contracts see of an arena: the nodes and the flat runs under their numbers, and what is kept for more.
-use Rattle.std.specs.Prelude.{◌≡◌, ◌≢◌, ℕ, ◌+◌, List, [], ◌∷◌, Option, Some, None, suc, slice_get, slice_index_or, nat_lt, if◌then◌else◌}
+use Rattle.std.specs.Prelude.{◌≡◌, ◌≢◌, ℕ, ◌+◌, List, [], ◌∷◌, Option, Some, None, suc, slice_get, slice_index_or, nat_le, nat_lt, if◌then◌else◌}
 use Rattle.std.specs.List.{insert, remove}
 use Rattle.std.specs.Option.{option_map}
 use Rattle.node_arena.specs.declared.elements.Elem.{Elem}
@@ -33,6 +33,10 @@ pub record RunsState : Type 0 where
 pub record ArenaState : Type 0 where
   pub nodes : NodesState
   pub runs : RunsState
+
+-- for how many elements a node has places, where runs have up to this many: the least of 2, 4, 8 and 16 that suffices
+abbrev pub places_for : ℕ → ℕ
+places_for n = if nat_le n 2 then 2 else (if nat_le n 4 then 4 else (if nat_le n 8 then 8 else 16))
 
 -- the node under a number
 abbrev pub node_at : ArenaState → ℕ → Option NodeState

@@ -1,7 +1,7 @@
 //! The nodes and flat runs of one mode.
 ghost use Rattle.std.specs.Prelude.{◌≡◌, ◌≢◌, ◌⊎◌, ◌<◌, ◌≤◌, ◌+◌, ◌-◌, ℕ, [], None, Some, IsSome, IsSomeAnd, IfSome, OnOk, OnErr, length, slice_get, slice_index_or, slice_set, take};
 ghost use Rattle.std.specs.List.{insert, remove};
-ghost use Rattle.node_arena.specs.Arenas.{NodeState, RunState, ArenaState, node_at, run_at, ChangesNode, ChangesRun, place_in, coordinate_at, with_link, without_link};
+ghost use Rattle.node_arena.specs.Arenas.{NodeState, RunState, ArenaState, node_at, run_at, places_for, ChangesNode, ChangesRun, place_in, coordinate_at, with_link, without_link};
 ghost use Rattle.node_arena.specs.Conforming.{IsRising};
 ghost use Rattle.node_arena.specs.declared.sized.TheConstants.{MOST_ELEMENTS};
 
@@ -43,6 +43,7 @@ impl Arena {
         ensures most { longest ≤ result.nodes.most }
         ensures small { result.nodes.most ≤ MOST_ELEMENTS }
         ensures runs { result.runs ≡ record { slots = []; spare = 0; room = 0 } }
+        ensures size { result.nodes.most ≡ places_for longest }
     {
         Arena {
             nodes: Nodes::new(alloc, longest),

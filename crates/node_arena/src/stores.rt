@@ -1,7 +1,7 @@
 //! Nodes under numbers, of the least of four sizes that serves.
 ghost use Rattle.std.specs.Prelude.{◌≡◌, ◌≢◌, ◌⊎◌, ◌<◌, ◌≤◌, ◌+◌, ℕ, None, Some, IsSome, IsSomeAnd, IfSome, OnOk, OnErr, [], length, map, slice_get, slice_index_or, slice_set, take};
 ghost use Rattle.std.specs.List.{insert, remove};
-ghost use Rattle.node_arena.specs.Arenas.{NodeState, NodesState, IsNodeChange, with_link, without_link};
+ghost use Rattle.node_arena.specs.Arenas.{NodeState, NodesState, places_for, IsNodeChange, with_link, without_link};
 ghost use Rattle.node_arena.specs.Packing.{unpacked, link_of};
 ghost use Rattle.node_arena.specs.Stores.{room_of, slots_of, most_of};
 
@@ -55,6 +55,7 @@ impl Nodes {
         ensures spare { result.spare ≡ 0 }
         ensures most { longest ≤ result.most }
         ensures small { result.most ≤ 16 }
+        ensures size { result.most ≡ places_for longest }
     {
         Nodes {
             store: store_for(alloc, longest),
@@ -235,6 +236,7 @@ fn store_for(alloc: Global, longest: u32) -> Store
     ensures slots { slots_of result ≡ [] }
     ensures most { longest ≤ most_of result }
     ensures small { most_of result ≤ 16 }
+    ensures size { most_of result ≡ places_for longest }
 {
     if longest <= 2 {
         Store::Two(Slab::new(alloc))
