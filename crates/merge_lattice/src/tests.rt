@@ -272,7 +272,7 @@ fn points_of_twelve_accesses_are_their_readings(rt: HostRuntime) -> Result<(), N
         b"D1d*-hlDg**c-**~py+f2+xT++*+",
     ];
     for text in texts {
-        assert!(rt; agrees_over_each(rt.alloc(), text, 5)?);
+        assert!(rt; agrees_over_each(rt.alloc(), text, 50)?);
     }
     Ok(())
 }
