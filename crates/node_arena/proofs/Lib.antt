@@ -6,3 +6,10 @@ pub mod ModesLemmas
 pub mod PackingLemmas
 pub mod SearchLemmas
 pub mod RefillLemmas
+pub mod KindsLemmas
+pub mod WalksLemmas
+pub mod PlacesLemmas
+pub mod HeightsLemmas
+pub mod ChangesLemmas
+pub mod PutInLemmas
+pub mod InsertionsLemmas

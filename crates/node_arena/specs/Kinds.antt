@@ -1,5 +1,5 @@
 -- The kinds of a schema, with their links by number instead of by name.
-use Rattle.std.specs.Prelude.{ℕ, List, map, length, position, unwrap_or, nat_eq, slice_index_or}
+use Rattle.std.specs.Prelude.{ℕ, max, List, [], ◌∷◌, map, length, position, unwrap_or, nat_eq, slice_index_or}
 use Rattle.std.specs.Cmp.Lexicographic.{pointwise}
 use Rattle.dt_model.specs.declared.declared_tensors.Kind.{Kind}
 use Rattle.dt_model.specs.declared.declared_tensors.Links.{Links}
@@ -43,3 +43,8 @@ kind_at s k = slice_index_or s k bare_kind
 -- the links of the kind with this number
 abbrev pub shape_at : List NodeKind → ℕ → Shape
 shape_at s k = (kind_at s k).shape
+
+-- the greatest number of elements that a run of any of the kinds may have; 0 where there is no kind
+abbrev pub longest_of : List NodeKind → ℕ
+longest_of [] = 0
+longest_of (k ∷ ks) = max k.hi (longest_of ks)

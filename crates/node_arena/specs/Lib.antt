@@ -7,3 +7,6 @@ pub mod Walks
 pub mod Conforming
 pub mod Structures
 pub mod Modes
+pub mod Rules
+pub mod Insertions
+pub mod Passing

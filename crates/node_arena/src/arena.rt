@@ -1,12 +1,14 @@
 //! The nodes and flat runs of one mode.
-ghost use Rattle.std.specs.Prelude.{◌≡◌, ◌≢◌, ◌⊎◌, ◌<◌, ◌≤◌, ◌+◌, ◌-◌, ℕ, [], None, Some, IsSome, IsSomeAnd, IfSome, OnOk, OnErr, length, slice_get, slice_index_or, slice_set, take};
-ghost use Rattle.std.specs.List.{insert, remove};
-ghost use Rattle.node_arena.specs.Arenas.{NodeState, RunState, ArenaState, node_at, run_at, places_for, ChangesNode, ChangesRun, place_in, coordinate_at, with_link, without_link};
+ghost use Rattle.std.specs.Prelude.{◌≡◌, ◌≢◌, ◌<◌, ◌≤◌, ◌+◌, ℕ, [], None, Some, IsSome, IsSomeAnd, IfSome, OnOk, OnErr};
+ghost use Rattle.std.specs.Prelude.{length, slice_get, slice_index_or, slice_set, take};
+ghost use Rattle.node_arena.specs.Arenas.{NodeState, RunState, ArenaState, node_at, run_at, places_for, place_in, coordinate_at};
+ghost use Rattle.node_arena.specs.Arenas.{ChangesNode, ChangesRun, RefusesNodes, RefusesRuns, CanInsert, with_elem, without_elem, with_more, with_less};
 ghost use Rattle.node_arena.specs.Conforming.{IsRising};
 ghost use Rattle.node_arena.specs.declared.sized.TheConstants.{MOST_ELEMENTS};
 
 use crate::elements::Elem;
 use crate::flat_slabs::Runs;
+use crate::node_views::NodeView;
 use crate::numbers::{NodeId, RunId};
 use crate::searching::search;
 use crate::sized::MOST_ELEMENTS;
@@ -42,7 +44,7 @@ impl Arena {
         ensures spare { result.nodes.spare ≡ 0 }
         ensures most { longest ≤ result.nodes.most }
         ensures small { result.nodes.most ≤ MOST_ELEMENTS }
-        ensures runs { result.runs ≡ record { slots = []; spare = 0; room = 0 } }
+        ensures runs { result.runs ≡ record { slots = []; spare = 0; room = 0; places = 0 } }
         ensures size { result.nodes.most ≡ places_for longest }
     {
         Arena {
@@ -51,12 +53,13 @@ impl Arena {
         }
     }
 
-    /// Takes memory so that at least so many nodes can be made. When out of memory all is as before. That answer also comes where a number
-    /// would have more than 32 bits, and then no node may be spare any more.
+    /// Takes memory so that at least so many nodes can be made. That is refused when out of memory, and where there would be more than
+    /// 4,294,967,295 nodes; then all is as before. One case is left, which no test shows: where the memory that is given is for more nodes than
+    /// that, it is refused too, and no node can be made any more.
     pub fn reserve(&mut self, nodes: u32) -> Result<(), NoMemory>
         ensures ok { OnOk result (nodes ≤ self.new.nodes.spare) }
         ensures kept { OnOk result (self.old.nodes.spare ≤ self.new.nodes.spare) }
-        ensures err { OnErr result ((self.new.nodes ≡ self.old.nodes) ⊎ (self.new.nodes ≡ record self.old.nodes { spare = 0 })) }
+        ensures err { OnErr result (RefusesNodes self.old.nodes self.new.nodes) }
         ensures nodes { self.new.nodes.slots ≡ self.old.nodes.slots }
         ensures most { self.new.nodes.most ≡ self.old.nodes.most }
         ensures runs { self.new.runs ≡ self.old.runs }
@@ -64,12 +67,11 @@ impl Arena {
         self.nodes.reserve(nodes)
     }
 
-    /// Takes memory so that at least so many runs can be made, each with at least that room. When out of memory all is as before. That answer
-    /// also comes where a number would have more than 32 bits, and then no run may be spare any more.
+    /// Takes memory so that at least so many runs can be made, each with at least that room. It is refused as in `reserve`.
     pub fn reserve_runs(&mut self, runs: u32, room: u32) -> Result<(), NoMemory>
         ensures ok { OnOk result ((runs ≤ self.new.runs.spare) × (room ≤ self.new.runs.room)) }
         ensures kept { OnOk result ((self.old.runs.spare ≤ self.new.runs.spare) × (self.old.runs.room ≤ self.new.runs.room)) }
-        ensures err { OnErr result ((self.new.runs ≡ self.old.runs) ⊎ (self.new.runs ≡ record self.old.runs { spare = 0 })) }
+        ensures err { OnErr result (RefusesRuns self.old.runs self.new.runs) }
         ensures runs { self.new.runs.slots ≡ self.old.runs.slots }
         ensures nodes { self.new.nodes ≡ self.old.nodes }
     {
@@ -129,8 +131,8 @@ impl Arena {
         right: Option<NodeId>,
         steps: &mut Steps<L>,
     )
-        requires there { IsSomeAnd (node_at self.old id) (λ n. (place ≤ length n.run) × (length n.run < self.old.nodes.most) × IfSome right (λ _. (place < length n.links) × (length n.links ≤ self.old.nodes.most))) }
-        ensures node { IfSome (node_at self.old id) (λ n. ChangesNode self.old self.new id (Some (record n { run = insert n.run place elem; links = with_link n.links place right }))) }
+        requires there { IsSomeAnd (node_at self.old id) (λ n. CanInsert n self.old.nodes.most place right) }
+        ensures node { IfSome (node_at self.old id) (λ n. ChangesNode self.old self.new id (Some (with_elem n place elem right))) }
         ensures spare { self.new.nodes.spare ≡ self.old.nodes.spare }
         ensures steps { steps.new ≡ steps.old + 1 }
     {
@@ -148,7 +150,7 @@ impl Arena {
     ) -> Elem
         requires there { IsSomeAnd (node_at self.old id) (λ n. (place < length n.run) × IfSome link (λ j. j < length n.links)) }
         ensures elem { IfSome (node_at self.old id) (λ n. slice_get n.run place ≡ Some result) }
-        ensures node { IfSome (node_at self.old id) (λ n. ChangesNode self.old self.new id (Some (record n { run = remove n.run place; links = without_link n.links link }))) }
+        ensures node { IfSome (node_at self.old id) (λ n. ChangesNode self.old self.new id (Some (without_elem n place link))) }
         ensures spare { self.new.nodes.spare ≡ self.old.nodes.spare }
         ensures steps { steps.new ≡ steps.old + 1 }
     {
@@ -215,12 +217,20 @@ impl Arena {
 // ---- nodes are read
 
 impl Arena {
+    /// A node, to be read: of several readings of one node, this is the cheapest.
+    pub fn view(&self, id: NodeId) -> NodeView<'_>
+        requires there { IsSome (node_at self.now id) }
+        ensures value { node_at self.now id ≡ Some result }
+    {
+        self.nodes.view(id)
+    }
+
     /// The number of a node's kind.
     pub fn kind(&self, id: NodeId) -> u32
         requires there { IsSome (node_at self.now id) }
         ensures value { IfSome (node_at self.now id) (λ n. result ≡ n.kind) }
     {
-        self.nodes.parts(id).kind()
+        self.nodes.view(id).kind()
     }
 
     /// How many elements a node has.
@@ -228,7 +238,7 @@ impl Arena {
         requires there { IsSome (node_at self.now id) }
         ensures value { IfSome (node_at self.now id) (λ n. result ≡ length n.run) }
     {
-        self.nodes.parts(id).len()
+        self.nodes.view(id).len()
     }
 
     /// How many links a node has, absent ones too.
@@ -236,7 +246,7 @@ impl Arena {
         requires there { IsSome (node_at self.now id) }
         ensures value { IfSome (node_at self.now id) (λ n. result ≡ length n.links) }
     {
-        self.nodes.parts(id).link_count()
+        self.nodes.view(id).link_count()
     }
 
     /// The element of a node at a place. None exactly where there is no such place.
@@ -244,7 +254,7 @@ impl Arena {
         requires there { IsSome (node_at self.now id) }
         ensures value { IfSome (node_at self.now id) (λ n. result ≡ slice_get n.run place) }
     {
-        self.nodes.parts(id).elem(place)
+        self.nodes.view(id).elem(place)
     }
 
     /// The coordinate of a node's element at a place. None exactly where there is no such place.
@@ -252,7 +262,7 @@ impl Arena {
         requires there { IsSome (node_at self.now id) }
         ensures value { IfSome (node_at self.now id) (λ n. result ≡ coordinate_at n.run place) }
     {
-        self.nodes.parts(id).coordinate(place)
+        self.nodes.view(id).coordinate(place)
     }
 
     /// The link of a node at a place. None where it is absent or there is no such place.
@@ -260,7 +270,7 @@ impl Arena {
         requires there { IsSome (node_at self.now id) }
         ensures value { IfSome (node_at self.now id) (λ n. result ≡ slice_index_or n.links place None) }
     {
-        self.nodes.parts(id).link(place)
+        self.nodes.view(id).link(place)
     }
 
     /// How many elements of a node come before the first one that isn't below the coordinate.
@@ -268,7 +278,7 @@ impl Arena {
         requires there { IsSome (node_at self.now id) }
         ensures value { IfSome (node_at self.now id) (λ n. result ≡ place_in at n.run) }
     {
-        self.nodes.parts(id).place(at)
+        self.nodes.view(id).place(at)
     }
 }
 
@@ -302,7 +312,7 @@ impl Arena {
     /// Puts an element into a run at a place. It takes time by the number of elements behind.
     pub fn run_insert(&mut self, id: RunId, place: usize, elem: Elem)
         requires there { IsSomeAnd (run_at self.old id) (λ r. (place ≤ length r.elems) × (0 < r.room)) }
-        ensures run { IfSome (run_at self.old id) (λ r. ChangesRun self.old self.new id (Some (record { elems = insert r.elems place elem; room = r.room - 1 }))) }
+        ensures run { IfSome (run_at self.old id) (λ r. ChangesRun self.old self.new id (Some (with_more r place elem))) }
         ensures spare { self.new.runs.spare ≡ self.old.runs.spare }
     {
         self.runs.insert(id, place, elem);
@@ -312,7 +322,7 @@ impl Arena {
     pub fn run_remove(&mut self, id: RunId, place: usize) -> Elem
         requires there { IsSomeAnd (run_at self.old id) (λ r. place < length r.elems) }
         ensures elem { IfSome (run_at self.old id) (λ r. slice_get r.elems place ≡ Some result) }
-        ensures run { IfSome (run_at self.old id) (λ r. ChangesRun self.old self.new id (Some (record { elems = remove r.elems place; room = r.room + 1 }))) }
+        ensures run { IfSome (run_at self.old id) (λ r. ChangesRun self.old self.new id (Some (with_less r place))) }
         ensures spare { self.new.runs.spare ≡ self.old.runs.spare }
     {
         self.runs.remove(id, place)

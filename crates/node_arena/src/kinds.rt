@@ -2,7 +2,7 @@
 ghost use Rattle.std.specs.Prelude.{◌≡◌, ◌<◌, ◌≤◌, IfSome, length, nat_eq, position};
 ghost use Rattle.std.specs.Cmp.Lexicographic.{pointwise};
 ghost use Rattle.dt_model.specs.declared.limits.TheConstants.{MOST_KINDS};
-ghost use Rattle.node_arena.specs.Kinds.{number_named, shape_of, numbered, kinds_of, root_of, bare_kind};
+ghost use Rattle.node_arena.specs.Kinds.{number_named, shape_of, numbered, kinds_of, root_of, bare_kind, longest_of};
 
 use arrayvec::ArrayVec;
 use dt_model::{Kind, Links, MOST_KINDS, Name, Schema};
@@ -110,4 +110,15 @@ pub fn root_of(schema: &Schema) -> u32
     ensures value { result ≡ root_of schema.now }
 {
     number_named(schema.kinds.as_slice(), &schema.root)
+}
+
+/// The greatest number of elements that a run of any of the kinds may have, as `Arena::new` wants it; 0 where there is no kind.
+pub fn longest_of(kinds: &[NodeKind]) -> u32
+    ensures value { result ≡ longest_of kinds.now }
+{
+    let mut longest = 0;
+    for kind in kinds {
+        longest = kind.hi.max(longest);
+    }
+    longest
 }

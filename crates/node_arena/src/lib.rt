@@ -2,12 +2,14 @@
 //!
 //! An `Arena` has the nodes and the flat runs of one mode. `Arena::make`, `put`, `insert`, `remove`, `replace`, `cut` and `set_links`
 //! write one node each, `make_run`, `run_insert`, `run_remove` and `run_replace` one run. What they need is taken before, by `reserve`,
-//! `reserve_runs` and `grow_run`, so none of them takes memory. `kinds_of` gives a schema's kinds with their links by number.
-//! Clauses see a `NodeId` or a `RunId` as its number, and an arena as lists of slots by number, with `spare`, `most` and `room`.
-//! Read `specs/Arenas.antt` first, then `Trees`, `Walks`, `Conforming`, `Structures` and `Modes`.
+//! `reserve_runs` and `grow_run`, so none of them takes memory. `Arena::view` gives a node to be read. `kinds_of` gives a schema's kinds with
+//! their links by number, and `longest_of` their longest run, as `Arena::new` wants it.
+//! Clauses see a `NodeId` or a `RunId` as its number, and an arena as lists of slots by number, with `spare`, `most`, `room` and `places`.
+//! Read `specs/Arenas.antt` first, then `Trees`, `Walks`, `Conforming`, `Structures`, `Insertions` and `Modes`.
 //! Numbers, kinds, places and coordinates count from 0. A node has at most `most` elements, 2, 4, 8 or 16, and one link more. A tick is
 //! the write of a node.
-//! Not here: which nodes a schema wants (`specs/Conforming.antt` says which it allows), walks, and insertion into whole structures.
+//! Not here: which nodes a schema wants (`specs/Conforming.antt` says which it allows), walks, and insertion into whole structures
+//! (`specs/Insertions.antt` and `Passing` say what that is).
 #![tactic(auto)]
 
 mod arena;
@@ -18,6 +20,7 @@ mod kinds;
 mod node_links;
 mod node_runs;
 mod node_slabs;
+mod node_views;
 mod numbers;
 mod packing;
 mod searching;
@@ -28,6 +31,7 @@ mod tests;
 
 pub use arena::Arena;
 pub use elements::{Elem, Held, MOST_SPINE, Side, Step, Structure, Top};
-pub use kinds::{NodeKind, Shape, kinds_of, root_of};
+pub use kinds::{NodeKind, Shape, kinds_of, longest_of, root_of};
+pub use node_views::NodeView;
 pub use numbers::{NodeId, RunId};
 pub use sized::MOST_ELEMENTS;

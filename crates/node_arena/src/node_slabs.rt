@@ -1,12 +1,11 @@
 //! Nodes of one size under numbers.
 ghost use Rattle.std.specs.Prelude.{◌≡◌, ◌≢◌, ◌<◌, ◌≤◌, ◌+◌, ◌-◌, ℕ, None, Some, IsSome, IsSomeAnd, IfSome, OnOk, length, slice_get, slice_set, take};
-ghost use Rattle.std.specs.List.{insert, remove};
 ghost use Rattle.slab.specs.Slab.{get, Updates, HasRoomFor, slab_len};
-ghost use Rattle.node_arena.specs.Arenas.{NodeState, with_link, without_link};
+ghost use Rattle.node_arena.specs.Arenas.{NodeState, with_elem, without_elem};
 ghost use Rattle.node_arena.specs.Stores.{usable, Alters};
 
 use crate::elements::Elem;
-use crate::numbers::NodeId;
+use crate::numbers::{NO_NUMBER, NodeId};
 use crate::sized::Sized;
 use slab::Slab;
 
@@ -53,8 +52,9 @@ pub(crate) fn insert<const E: usize, const L: usize>(
     elem: Elem,
     right: Option<NodeId>,
 )
-    requires there { IsSomeAnd (get slab.old id) (λ n. (place ≤ length n.run) × (length n.run < E) × IfSome right (λ _. (place < length n.links) × (length n.links < L))) }
-    ensures node { IfSome (get slab.old id) (λ n. Alters slab.old slab.new id (record n { run = insert n.run place elem; links = with_link n.links place right })) }
+    requires there { IsSomeAnd (get slab.old id) (λ n. (place ≤ length n.run) × (length n.run < E)) }
+    requires link { IsSomeAnd (get slab.old id) (λ n. IfSome right (λ _. (place < length n.links) × (length n.links < L))) }
+    ensures node { IfSome (get slab.old id) (λ n. Alters slab.old slab.new id (with_elem n place elem right)) }
 {
     slab[id].insert(place, elem, right);
 }
@@ -68,7 +68,7 @@ pub(crate) fn remove<const E: usize, const L: usize>(
 ) -> Elem
     requires there { IsSomeAnd (get slab.old id) (λ n. (place < length n.run) × IfSome link (λ j. j < length n.links)) }
     ensures elem { IfSome (get slab.old id) (λ n. slice_get n.run place ≡ Some result) }
-    ensures node { IfSome (get slab.old id) (λ n. Alters slab.old slab.new id (record n { run = remove n.run place; links = without_link n.links link })) }
+    ensures node { IfSome (get slab.old id) (λ n. Alters slab.old slab.new id (without_elem n place link)) }
 {
     slab[id].remove(place, link)
 }
@@ -123,14 +123,20 @@ pub(crate) fn free<const E: usize, const L: usize>(slab: &mut Slab<Sized<E, L>>,
     slab.remove(id);
 }
 
-/// Takes room for so many more nodes, and for as many as there are if that can be had.
+/// Takes room for so many more nodes, and for as many as there are if that can be had. It takes none where the nodes would be more than the
+/// numbers.
 pub(crate) fn reserve<const E: usize, const L: usize>(slab: &mut Slab<Sized<E, L>>, nodes: u32)
     ensures slots { slab.new.slots ≡ slab.old.slots }
     ensures capacity { slab.old.capacity ≤ slab.new.capacity }
 {
-    let all = slab.len().max(nodes as usize);
+    let nodes = nodes as usize;
+    let left = NO_NUMBER as usize - nodes;
+    if slab.len() > left {
+        return;
+    }
+    let all = slab.len().max(nodes).min(NO_NUMBER as usize - slab.len());
     if slab.reserve(all).is_err() {
-        let _ = slab.reserve(nodes as usize);
+        let _ = slab.reserve(nodes);
     }
 }
 
@@ -139,7 +145,7 @@ pub(crate) fn spare<const E: usize, const L: usize>(slab: &Slab<Sized<E, L>>) ->
     ensures value { result ≡ usable slab.now.capacity - slab_len slab.now }
 {
     let capacity = slab.capacity();
-    if capacity < 4294967296 {
+    if capacity <= NO_NUMBER as usize {
         (capacity - slab.len()) as u32
     } else {
         0

@@ -24,6 +24,15 @@ impl Model for NodeId {
     ghost inverse = { λ n. record { number = n } };
 }
 
+impl Default for NodeId {
+    /// A placeholder, which fills the unused places of an `ArrayVec` of numbers.
+    fn default() -> NodeId
+        ensures value { result ≡ 0 }
+    {
+        NodeId { number: 0 }
+    }
+}
+
 impl NodeId {
     /// The id with this number.
     pub(crate) fn of(number: u32) -> NodeId

@@ -5,11 +5,10 @@ ghost use Rattle.node_arena.specs.Arenas.{NodeState, place_in, coordinate_at, wi
 ghost use Rattle.node_arena.specs.Packing.{unpacked, link_of};
 
 use crate::elements::Elem;
-use crate::node_links::{Links, link_of};
+use crate::node_links::Links;
 use crate::node_runs::Run;
+use crate::node_views::NodeView;
 use crate::numbers::NodeId;
-use crate::packing::Packed;
-use crate::searching::place_in;
 use std::marker::Model;
 
 /// The greatest number of elements in a node.
@@ -39,14 +38,6 @@ impl<const E: usize, const L: usize> Model for Sized<E, L> {
     ghost view = { λ n. record { kind = n.kind; run = n.run; links = n.links } };
 }
 
-/// What a node is made of, whatever its size.
-#[derive(Clone, Copy, Debug)]
-pub(crate) struct Parts<'a> {
-    kind: u32,
-    run: &'a [Packed],
-    links: &'a [u32],
-}
-
 impl<const E: usize, const L: usize> Sized<E, L> {
     /// A node of this kind with these elements and links.
     pub(crate) fn of(kind: u32, run: &[Elem], links: &[Option<NodeId>]) -> Sized<E, L>
@@ -61,17 +52,11 @@ impl<const E: usize, const L: usize> Sized<E, L> {
         }
     }
 
-    /// What the node is made of.
-    pub(crate) fn parts(&self) -> Parts<'_>
-        ensures kind { result.kind ≡ self.now.kind }
-        ensures run { map unpacked result.run.now ≡ self.now.run }
-        ensures links { map link_of result.links.now ≡ self.now.links }
+    /// The node, to be read.
+    pub(crate) fn view(&self) -> NodeView<'_>
+        ensures value { result ≡ self.now }
     {
-        Parts {
-            kind: self.kind,
-            run: self.run.packed(),
-            links: self.links.packed(),
-        }
+        NodeView::of(self.kind, self.run.packed(), self.links.packed())
     }
 
     /// Puts an element in at a place, and a link behind the link of that place if one is given.
@@ -123,60 +108,5 @@ impl<const E: usize, const L: usize> Sized<E, L> {
         ensures value { self.new ≡ record self.old { links = links.now } }
     {
         self.links = Links::of(links);
-    }
-}
-
-impl Parts<'_> {
-    /// The number of the kind.
-    pub(crate) fn kind(&self) -> u32
-        ensures value { result ≡ self.now.kind }
-    {
-        self.kind
-    }
-
-    /// How many elements there are.
-    pub(crate) fn len(&self) -> usize
-        ensures value { result ≡ length self.now.run.now }
-    {
-        self.run.len()
-    }
-
-    /// How many links there are, absent ones too.
-    pub(crate) fn link_count(&self) -> usize
-        ensures value { result ≡ length self.now.links.now }
-    {
-        self.links.len()
-    }
-
-    /// The element at a place, if there is one.
-    pub(crate) fn elem(&self, place: usize) -> Option<Elem>
-        ensures value { result ≡ slice_get (map unpacked self.now.run.now) place }
-    {
-        self.run.get(place).map(|packed| packed.elem())
-    }
-
-    /// The coordinate of the element at a place, if there is one.
-    pub(crate) fn coordinate(&self, place: usize) -> Option<u32>
-        ensures value { result ≡ coordinate_at (map unpacked self.now.run.now) place }
-    {
-        self.run.get(place).map(|packed| packed.at())
-    }
-
-    /// The link at a place; none where there is no such place.
-    pub(crate) fn link(&self, place: usize) -> Option<NodeId>
-        ensures value { result ≡ slice_index_or (map link_of self.now.links.now) place None }
-    {
-        if place < self.links.len() {
-            link_of(self.links[place])
-        } else {
-            None
-        }
-    }
-
-    /// How many elements come before the first one that isn't below the coordinate.
-    pub(crate) fn place(&self, at: u32) -> usize
-        ensures value { result ≡ place_in at (map unpacked self.now.run.now) }
-    {
-        place_in(self.run, at)
     }
 }

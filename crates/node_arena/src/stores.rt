@@ -1,14 +1,15 @@
 //! Nodes under numbers, of the least of four sizes that serves.
-ghost use Rattle.std.specs.Prelude.{◌≡◌, ◌≢◌, ◌⊎◌, ◌<◌, ◌≤◌, ◌+◌, ℕ, None, Some, IsSome, IsSomeAnd, IfSome, OnOk, OnErr, [], length, map, slice_get, slice_index_or, slice_set, take};
-ghost use Rattle.std.specs.List.{insert, remove};
-ghost use Rattle.node_arena.specs.Arenas.{NodeState, NodesState, places_for, IsNodeChange, with_link, without_link};
+ghost use Rattle.std.specs.Prelude.{◌≡◌, ◌<◌, ◌≤◌, ◌+◌, None, Some, IsSome, IsSomeAnd, IfSome, OnOk, OnErr, [], length, map, slice_get, slice_set, take};
+ghost use Rattle.node_arena.specs.Arenas.{NodeState, NodesState, node_in, places_for, IsNodeChange, RefusesNodes, CanInsert, with_elem, without_elem};
 ghost use Rattle.node_arena.specs.Packing.{unpacked, link_of};
-ghost use Rattle.node_arena.specs.Stores.{room_of, slots_of, most_of};
+ghost use Rattle.node_arena.specs.Stores.{places_of, room_of, slots_of, most_of};
+ghost use Rattle.node_arena.specs.declared.numbers.TheConstants.{NO_NUMBER};
 
 use crate::elements::Elem;
 use crate::node_slabs;
+use crate::node_views::NodeView;
 use crate::numbers::NodeId;
-use crate::sized::{Parts, Sized};
+use crate::sized::Sized;
 use dt_model::NoMemory;
 use slab::Slab;
 use std::alloc::Global;
@@ -67,7 +68,7 @@ impl Nodes {
     pub(crate) fn reserve(&mut self, nodes: u32) -> Result<(), NoMemory>
         ensures ok { OnOk result (nodes ≤ self.new.spare) }
         ensures kept { OnOk result (self.old.spare ≤ self.new.spare) }
-        ensures err { OnErr result ((self.new ≡ self.old) ⊎ (self.new ≡ record self.old { spare = 0 })) }
+        ensures err { OnErr result (RefusesNodes self.old self.new) }
         ensures slots { self.new.slots ≡ self.old.slots }
         ensures most { self.new.most ≡ self.old.most }
     {
@@ -91,7 +92,7 @@ impl Nodes {
         requires spare { 0 < self.old.spare }
         requires run { length run.now ≤ self.old.most }
         requires links { length links.now ≤ self.old.most + 1 }
-        ensures is_new { slice_index_or self.old.slots result None ≡ None }
+        ensures is_new { node_in self.old result ≡ None }
         ensures node { IsNodeChange self.old self.new result (Some (record { kind = kind; run = run.now; links = links.now })) }
         ensures spare { self.new.spare + 1 ≡ self.old.spare }
     {
@@ -107,7 +108,7 @@ impl Nodes {
 
     /// Puts a node in the place of another.
     pub(crate) fn put(&mut self, id: NodeId, kind: u32, run: &[Elem], links: &[Option<NodeId>])
-        requires there { IsSome (slice_index_or self.old.slots id None) }
+        requires there { IsSome (node_in self.old id) }
         requires run { length run.now ≤ self.old.most }
         requires links { length links.now ≤ self.old.most + 1 }
         ensures node { IsNodeChange self.old self.new id (Some (record { kind = kind; run = run.now; links = links.now })) }
@@ -124,8 +125,8 @@ impl Nodes {
 
     /// Puts an element into a node, and a link behind the link of that place if one is given.
     pub(crate) fn insert(&mut self, id: NodeId, place: usize, elem: Elem, right: Option<NodeId>)
-        requires there { IsSomeAnd (slice_index_or self.old.slots id None) (λ n. (place ≤ length n.run) × (length n.run < self.old.most) × IfSome right (λ _. (place < length n.links) × (length n.links ≤ self.old.most))) }
-        ensures node { IfSome (slice_index_or self.old.slots id None) (λ n. IsNodeChange self.old self.new id (Some (record n { run = insert n.run place elem; links = with_link n.links place right }))) }
+        requires there { IsSomeAnd (node_in self.old id) (λ n. CanInsert n self.old.most place right) }
+        ensures node { IfSome (node_in self.old id) (λ n. IsNodeChange self.old self.new id (Some (with_elem n place elem right))) }
         ensures spare { self.new.spare ≡ self.old.spare }
     {
         let number = id.number() as usize;
@@ -139,9 +140,9 @@ impl Nodes {
 
     /// Takes an element out of a node, and a link if its place is given.
     pub(crate) fn remove(&mut self, id: NodeId, place: usize, link: Option<usize>) -> Elem
-        requires there { IsSomeAnd (slice_index_or self.old.slots id None) (λ n. (place < length n.run) × IfSome link (λ j. j < length n.links)) }
-        ensures elem { IfSome (slice_index_or self.old.slots id None) (λ n. slice_get n.run place ≡ Some result) }
-        ensures node { IfSome (slice_index_or self.old.slots id None) (λ n. IsNodeChange self.old self.new id (Some (record n { run = remove n.run place; links = without_link n.links link }))) }
+        requires there { IsSomeAnd (node_in self.old id) (λ n. (place < length n.run) × IfSome link (λ j. j < length n.links)) }
+        ensures elem { IfSome (node_in self.old id) (λ n. slice_get n.run place ≡ Some result) }
+        ensures node { IfSome (node_in self.old id) (λ n. IsNodeChange self.old self.new id (Some (without_elem n place link))) }
         ensures spare { self.new.spare ≡ self.old.spare }
     {
         let number = id.number() as usize;
@@ -155,8 +156,8 @@ impl Nodes {
 
     /// Puts an element in the place of another.
     pub(crate) fn replace(&mut self, id: NodeId, place: usize, elem: Elem)
-        requires there { IsSomeAnd (slice_index_or self.old.slots id None) (λ n. place < length n.run) }
-        ensures node { IfSome (slice_index_or self.old.slots id None) (λ n. IsNodeChange self.old self.new id (Some (record n { run = slice_set n.run place elem }))) }
+        requires there { IsSomeAnd (node_in self.old id) (λ n. place < length n.run) }
+        ensures node { IfSome (node_in self.old id) (λ n. IsNodeChange self.old self.new id (Some (record n { run = slice_set n.run place elem }))) }
         ensures spare { self.new.spare ≡ self.old.spare }
     {
         let number = id.number() as usize;
@@ -170,9 +171,9 @@ impl Nodes {
 
     /// Keeps the first elements of a node, which has these links then.
     pub(crate) fn cut(&mut self, id: NodeId, keep: usize, links: &[Option<NodeId>])
-        requires there { IsSome (slice_index_or self.old.slots id None) }
+        requires there { IsSome (node_in self.old id) }
         requires links { length links.now ≤ self.old.most + 1 }
-        ensures node { IfSome (slice_index_or self.old.slots id None) (λ n. IsNodeChange self.old self.new id (Some (record n { run = take keep n.run; links = links.now }))) }
+        ensures node { IfSome (node_in self.old id) (λ n. IsNodeChange self.old self.new id (Some (record n { run = take keep n.run; links = links.now }))) }
         ensures spare { self.new.spare ≡ self.old.spare }
     {
         let number = id.number() as usize;
@@ -186,9 +187,9 @@ impl Nodes {
 
     /// A node has these links then.
     pub(crate) fn set_links(&mut self, id: NodeId, links: &[Option<NodeId>])
-        requires there { IsSome (slice_index_or self.old.slots id None) }
+        requires there { IsSome (node_in self.old id) }
         requires links { length links.now ≤ self.old.most + 1 }
-        ensures node { IfSome (slice_index_or self.old.slots id None) (λ n. IsNodeChange self.old self.new id (Some (record n { links = links.now }))) }
+        ensures node { IfSome (node_in self.old id) (λ n. IsNodeChange self.old self.new id (Some (record n { links = links.now }))) }
         ensures spare { self.new.spare ≡ self.old.spare }
     {
         let number = id.number() as usize;
@@ -202,7 +203,7 @@ impl Nodes {
 
     /// Takes a node out.
     pub(crate) fn free(&mut self, id: NodeId)
-        requires there { IsSome (slice_index_or self.old.slots id None) }
+        requires there { IsSome (node_in self.old id) }
         ensures node { IsNodeChange self.old self.new id None }
         ensures spare { self.new.spare ≡ self.old.spare }
     {
@@ -216,16 +217,16 @@ impl Nodes {
     }
 
     /// What a node is made of.
-    pub(crate) fn parts(&self, id: NodeId) -> Parts<'_>
-        requires there { IsSome (slice_index_or self.now.slots id None) }
-        ensures node { slice_index_or self.now.slots id None ≡ Some (record { kind = result.kind; run = map unpacked result.run.now; links = map link_of result.links.now }) }
+    pub(crate) fn view(&self, id: NodeId) -> NodeView<'_>
+        requires there { IsSome (node_in self.now id) }
+        ensures node { node_in self.now id ≡ Some result }
     {
         let number = id.number() as usize;
         match &self.store {
-            Store::Two(slab) => slab[number].parts(),
-            Store::Four(slab) => slab[number].parts(),
-            Store::Eight(slab) => slab[number].parts(),
-            Store::Sixteen(slab) => slab[number].parts(),
+            Store::Two(slab) => slab[number].view(),
+            Store::Four(slab) => slab[number].view(),
+            Store::Eight(slab) => slab[number].view(),
+            Store::Sixteen(slab) => slab[number].view(),
         }
     }
 }
@@ -253,7 +254,8 @@ fn store_for(alloc: Global, longest: u32) -> Store
 fn grow(store: &mut Store, nodes: u32)
     ensures slots { slots_of store.new ≡ slots_of store.old }
     ensures most { most_of store.new ≡ most_of store.old }
-    ensures room { (room_of store.old ≤ room_of store.new) ⊎ (room_of store.new ≡ 0) }
+    ensures room { places_of store.new ≤ NO_NUMBER → room_of store.old ≤ room_of store.new }
+    ensures none { NO_NUMBER < places_of store.new → room_of store.new ≡ 0 }
 {
     match store {
         Store::Two(slab) => node_slabs::reserve(slab, nodes),

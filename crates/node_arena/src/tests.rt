@@ -4,7 +4,7 @@ ghost use Rattle.node_arena.specs.Arenas.{node_at};
 
 use crate::numbers::{NodeId, RunId};
 use crate::packing::Packed;
-use crate::{Arena, Elem, Held, NodeKind, Shape, Structure, Top, kinds_of, root_of};
+use crate::{Arena, Elem, Held, NodeKind, Shape, Structure, Top, kinds_of, longest_of, root_of};
 use arrayvec::ArrayVec;
 use dt_model::{Kind, Links, Name, NoMemory, Schema, Steps};
 use std::alloc::Global;
@@ -20,8 +20,8 @@ fn elem(at: u32, number: u64) -> Elem {
     }
 }
 
-/// What is read of a node: its kind, how many elements and links it has, whether the element at place 1 is the one made, the coordinate at place 0, and the
-/// places of 19, 20 and 31.
+/// What is read of a node: its kind, how many elements and links it has, whether the element at place 1 is the one made, the coordinate at
+/// place 0, and the places of 19, 20 and 31.
 #[derive(Debug, PartialEq, Drop)]
 struct Reading {
     kind: u32,
@@ -316,4 +316,59 @@ fn links_have_the_numbers_of_the_kinds_that_they_name(rt: HostRuntime) {
         all.as_slice().get(2),
         Some(&numbered(Shape::Ends { pre: 0, post: 2 }))
     );
+}
+
+/// A kind by number, whose runs have 1 to so many elements.
+fn up_to(hi: u32) -> NodeKind {
+    let shape = Shape::Flat;
+    NodeKind { lo: 1, hi, shape }
+}
+
+#[test]
+fn the_longest_run_is_that_of_the_kind_with_the_greatest_bound(rt: HostRuntime) {
+    assert_eq!(rt; longest_of(&[]), 0);
+    assert_eq!(rt; longest_of(&[up_to(3)]), 3);
+    assert_eq!(rt; longest_of(&[up_to(3), up_to(16), up_to(8)]), 16);
+    assert_eq!(rt; longest_of(&[up_to(8), up_to(2)]), 8);
+}
+
+#[test]
+fn more_runs_than_numbers_are_refused(rt: HostRuntime) -> Result<(), Fail> {
+    let mut arena = Arena::new(rt.alloc(), 1);
+    arena.reserve_runs(1, 1)?;
+    let id = arena.make_run();
+    assert!(rt; arena.reserve_runs(4_294_967_295, 0).is_err());
+    assert_eq!(rt; arena.run_len(id), 0);
+    arena.reserve_runs(2, 1)?;
+    let next = arena.make_run();
+    assert_eq!(rt; arena.run_len(next), 0);
+    Ok(())
+}
+
+/// Asks for more nodes than there are numbers, and answers whether that is refused, and what is read of the nodes made before and behind.
+fn refused<L: Ledger>(alloc: Global, blank: Blank) -> Result<(bool, Row, Row), NoMemory>
+    requires name { blank.name ≡ L.name }
+    requires parts { blank.parts ≡ L.parts }
+    requires one { blank.parts ≡ 1 }
+{
+    let mut steps = Steps::<L>::open(blank);
+    let mut arena = Arena::new(alloc, 2);
+    arena.reserve(1)?;
+    let first = arena.make(1, &[elem(10, 1), elem(20, 2)], &[], &mut steps);
+    let is_refused = arena.reserve(4_294_967_295).is_err();
+    arena.reserve(1)?;
+    let second = arena.make(2, &[], &[Some(first)], &mut steps);
+    Ok((is_refused, row(&arena, first), row(&arena, second)))
+}
+
+/// Whether a request for more nodes than there are numbers is refused, and leaves the nodes.
+fn is_refused(alloc: Global) -> Result<bool, NoMemory> {
+    let (is_refused, first, second) = refused::<Brand>(alloc, Blank::new(1))?;
+    Ok(is_refused && first == (1, 2, 0, Some(20)) && second == (2, 0, 1, None))
+}
+
+#[test]
+fn more_nodes_than_numbers_are_refused(rt: HostRuntime) -> Result<(), Fail> {
+    assert!(rt; is_refused(rt.alloc())?);
+    Ok(())
 }

@@ -1,0 +1,10 @@
+pub mod WeaveLemmas
+pub mod PlacesLemmas
+pub mod RowLemmas
+pub mod SplitLemmas
+pub mod ChildLemmas
+pub mod DescentLemmas
+pub mod ConformLemmas
+pub mod TopLemmas
+pub mod WiderLemmas
+pub mod TrialLemmas

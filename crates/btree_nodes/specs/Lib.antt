@@ -1,0 +1,5 @@
+pub mod Weaving
+pub mod Splits
+pub mod Descents
+pub mod Writes
+pub mod Trials

@@ -1,0 +1,9 @@
+pub mod AddsLemmas
+pub mod RowsLemmas
+pub mod RangesLemmas
+pub mod JoinsLemmas
+pub mod LevelsLemmas
+pub mod WeavingLemmas
+pub mod FillsLemmas
+pub mod AnswersLemmas
+pub mod ReadingLemmas

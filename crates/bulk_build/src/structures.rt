@@ -1,0 +1,37 @@
+//! The one call.
+ghost use Rattle.std.specs.Prelude.{◌≡◌, ◌<◌, ◌≤◌, ◌+◌, ℕ, IfOk, OnErr, length};
+ghost use Rattle.node_arena.specs.Conforming.{IsRising};
+ghost use Rattle.node_arena.specs.Kinds.{shape_at};
+ghost use Rattle.node_arena.specs.Rules.{AreSound, Serves};
+ghost use Rattle.bulk_build.specs.Building.{IsBuilt, IsAsBefore};
+
+use crate::flat::flat;
+use crate::linked::linked;
+use crate::lookup::kind_of;
+use dt_model::{NoMemory, Steps};
+use node_arena::{Arena, Elem, NodeKind, Shape, Structure};
+use std::sync::ledger::Ledger;
+
+/// A new structure of the root's kind with these elements, which takes time by their number. All memory is taken before the first node is made.
+pub fn build<L: Ledger>(
+    kinds: &[NodeKind],
+    root: u32,
+    elems: &[Elem],
+    arena: &mut Arena,
+    steps: &mut Steps<L>,
+) -> Result<Structure, NoMemory>
+    requires declared { root < length kinds.now }
+    requires sound { AreSound kinds.now }
+    requires serves { Serves kinds.now arena.old }
+    requires rising { IsRising elems.now }
+    requires few { length elems.now < 4294967296 }
+    ensures ok { IfOk result (λ st. IsBuilt kinds.now root arena.old arena.new elems.now st) }
+    ensures err { OnErr result (IsAsBefore arena.old arena.new) }
+    ensures most { arena.new.nodes.most ≡ arena.old.nodes.most }
+    ensures steps { steps.new ≤ steps.old + length elems.now }
+{
+    match kind_of(kinds, root).shape {
+        Shape::Flat => flat(kinds, root, elems, arena),
+        _ => linked(kinds, root, elems, arena, steps),
+    }
+}

@@ -1,0 +1,16 @@
+pub mod Options
+pub mod Order
+pub mod Pairs
+pub mod Turning
+pub mod Opening
+pub mod Behind
+pub mod Parts
+pub mod Descending
+pub mod Ending
+pub mod Passed
+pub mod Whole
+pub mod Cells
+pub mod Narrow
+pub mod Halves
+pub mod Anew
+pub mod TrialLemmas

@@ -1,0 +1,6 @@
+pub mod Ways
+pub mod Writes
+pub mod Descents
+pub mod Relinking
+pub mod Balancing
+pub mod Trials

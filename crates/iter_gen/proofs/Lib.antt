@@ -1,0 +1,17 @@
+pub mod FromLemmas
+pub mod BehindLemmas
+pub mod ReadingLemmas
+pub mod NodesLemmas
+pub mod PathsLemmas
+pub mod ConformingLemmas
+pub mod WalkersLemmas
+pub mod ActsLemmas
+pub mod RunsLemmas
+pub mod SoundnessLemmas
+pub mod RisingLemmas
+pub mod PartsLemmas
+pub mod DescentLemmas
+pub mod FoundLemmas
+pub mod VisitsLemmas
+pub mod FrontLemmas
+pub mod TrialsLemmas

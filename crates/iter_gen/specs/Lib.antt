@@ -1,0 +1,9 @@
+pub mod Acts
+pub mod Behind
+pub mod Frames
+pub mod Walkers
+pub mod LookingUp
+pub mod Searching
+pub mod Visiting
+pub mod Folding
+pub mod Trials

@@ -1,0 +1,125 @@
+-- What an insertion into nodes of one discipline asks for, and what it leaves to do.
+use Rattle.std.specs.Prelude.{◌≡◌, ◌≢◌, ◌⊎◌, ◌≤◌, ◌+◌, ℕ, List, [], ◌∷◌, ◌++◌, length, Option, Some, None, slice_set, slice_index_or}
+use Rattle.node_arena.specs.declared.elements.Elem.{Elem}
+use Rattle.node_arena.specs.declared.elements.Side.{Side}
+use Rattle.node_arena.specs.declared.elements.Side.TheVariants as side
+use Rattle.node_arena.specs.declared.elements.Step.{Step}
+use Rattle.node_arena.specs.declared.elements.Step.TheVariants.{Done, Pass}
+use Rattle.node_arena.specs.declared.kinds.NodeKind.{NodeKind}
+use Rattle.node_arena.specs.declared.kinds.Shape.{Shape}
+use Rattle.node_arena.specs.declared.kinds.Shape.TheVariants.{Flat, Post, Ends, Woven}
+use Rattle.node_arena.specs.Arenas.{ArenaState, NodeState, node_at, ChangesNode}
+use Rattle.node_arena.specs.Conforming.{Conform, Hang, whole, IsLevel, IsRising, spine}
+use Rattle.node_arena.specs.Insertions.{PutsIn, Lacks, all_put_in}
+use Rattle.node_arena.specs.Kinds.{shape_at}
+use Rattle.node_arena.specs.Trees.{Trees, done, node, roots, Stands, Avoids, IsReachedOnce, KeepsOutside, TakesFree}
+use Rattle.node_arena.specs.Walks.{walk}
+
+-- ---- kinds and their links
+
+-- how an element goes into nodes of a kind: into a run, along a chain, down a tree of chunks, or down a woven tree
+pub data Discipline : Type 0 where
+  runs : Discipline
+  chains : Discipline
+  chunks : Discipline
+  weaves : Discipline
+
+-- the discipline of a kind with these links
+abbrev pub discipline : Shape → Discipline
+discipline Flat = runs
+discipline (Post p) = chains
+discipline (Ends p q) = chunks
+discipline Woven = weaves
+
+-- a link by its place, counted from 0, and the number of the kind that hangs there
+pub record LinkPlace : Type 0 where
+  pub place : ℕ
+  pub kind : ℕ
+
+-- the link at a side of a node with these links
+abbrev pub link_at : Shape → Side → Option LinkPlace
+link_at Flat side = None
+link_at (Post p) side.Pre = None
+link_at (Post p) side.Post = Some (record { place = 0; kind = p })
+link_at (Ends p q) side.Pre = Some (record { place = 0; kind = p })
+link_at (Ends p q) side.Post = Some (record { place = 1; kind = q })
+link_at Woven side = None
+
+-- the elements rise, and lie at that side of the run
+abbrev pub LieBeside : Side → List Elem → List Elem → Type 0
+LieBeside side.Pre run xs = IsRising (xs ++ run)
+LieBeside side.Post run xs = IsRising (run ++ xs)
+
+-- none of the elements has the coordinate of one of these
+abbrev pub AllLack : List Elem → List Elem → Type 0
+AllLack [] es = Unit {0}
+AllLack (x ∷ xs) es = Lacks x.at es × AllLack xs es
+
+-- ---- what an insertion asks for
+
+-- node i is the root of this tree, which stands and conforms with its root's kind, and where no element has the coordinate of x
+pub record CanPutIn (s : List NodeKind) (a : ArenaState) (x : Elem) (i : ℕ) (t : Trees) : Type 0 where
+  pub kind : ℕ
+  pub run : List Elem
+  pub links : Trees
+  pub is : t ≡ node i kind run links done
+  pub stands : Stands a t
+  pub once : IsReachedOnce t
+  pub conforms : Conform s kind t
+  pub lacks : Lacks x.at (walk s t)
+
+-- ---- what it leaves
+
+-- what hangs at a link of kind k, or nothing, has become a structure of that kind with these elements put in
+pub record PutsAt (s : List NodeKind) (k : ℕ) (a b : ArenaState) (xs : List Elem) (t u : Trees) : Type 0 where
+  pub stands : Stands b u
+  pub once : IsReachedOnce u
+  pub hangs : Hang s (whole s k ∷ []) u
+  pub level : IsLevel s u
+  pub spine_low : spine s u ≤ 1 + spine s t
+  pub walk_is : walk s u ≡ all_put_in xs (walk s t)
+  pub keeps : KeepsOutside a b t
+  pub news : TakesFree a t u
+
+-- x is in a tree with the same root
+pub record IsDone (s : List NodeKind) (a b : ArenaState) (x : Elem) (t : Trees) : Type 0 where
+  pub tree : Trees
+  pub same_root : roots tree ≡ roots t
+  pub puts : PutsIn s a b (x ∷ []) t tree
+
+-- Nothing was written, and x goes on; or the kind behind the run is woven, and one write took the end of the node's run away. The ticks were n
+-- before, and are m.
+abbrev pub GoesOn : List NodeKind → ArenaState → ArenaState → Elem → ℕ → NodeState → ℕ → List Elem → ℕ → ℕ → Type 0
+GoesOn s a b x i passer p xs n m = ((b ≡ a) × (xs ≡ x ∷ []) × (m ≡ n)) ⊎ ((shape_at s p ≡ Woven) × ChangesNode a b i (Some passer) × (m ≡ n + 1))
+
+-- The elements still have to go into the structure at this side of node i, which is of another discipline. With them there, and with the link
+-- set to its root, x is in the tree, under the old root. Where that structure keeps its root, the link is set already.
+pub record IsPassed (s : List NodeKind) (a b : ArenaState) (x : Elem) (t : Trees) (i : ℕ) (at_side : Side) (xs : List Elem) (n m : ℕ) : Type 0 where
+  -- the node, the link, and what hangs there
+  pub passer : NodeState
+  pub there : node_at b i ≡ Some passer
+  pub link : LinkPlace
+  pub has_link : link_at (shape_at s passer.kind) at_side ≡ Some link
+  pub other : discipline (shape_at s link.kind) ≢ discipline (shape_at s passer.kind)
+  pub below : Trees
+  pub leads : roots below ≡ slice_index_or passer.links link.place None ∷ []
+  pub stands : Stands b below
+  pub once : IsReachedOnce below
+  pub away : Avoids i below
+  pub conforms : Conform s link.kind below
+  pub spine_low : spine s below ≤ spine s t
+  -- the elements
+  pub some : xs ≢ []
+  pub beside : LieBeside at_side passer.run xs
+  pub lack : AllLack xs (walk s below)
+  pub counted : length xs + length (walk s below) ≤ length (walk s t)
+  -- what was written, and what is left to do
+  pub goes_on : GoesOn s a b x i passer link.kind xs n m
+  pub spare : b.nodes.spare ≡ a.nodes.spare
+  pub lift : (c d : ArenaState) (v : Trees) (top : Option ℕ) → PutsAt s link.kind b c xs below v → roots v ≡ top ∷ []
+      → ChangesNode c d i (Some (record passer { links = slice_set passer.links link.place top })) → IsDone s a d x t
+
+-- What is left to do after an insertion into nodes of one discipline. The ticks were n before, and are m.
+abbrev pub Leaves : List NodeKind → ArenaState → ArenaState → Elem → Trees → Step → ℕ → ℕ → Type 0
+Leaves s a b x t Done n m = IsDone s a b x t
+Leaves s a b x t (Pass i at_side xs) n m = IsPassed s a b x t i at_side xs.items n m
