@@ -56,7 +56,7 @@ module _ {C : Type 0} (content : C → Contents) (sound : Decls → ℕ → C
   abbrev w : View
   w = with_pass w0 u
 
-  -- a take, once its pass is absorbed and the clock was read
+  -- a take, once its pass is absorbed and a word was read
   pub TakesLatch-pass : IsLastJoin w.config w w.last_join × IsLawful w.config w.seen
       → TakesLatch (GoodAt content sound) l s (v, c) y (without_join w, (l, None) ∷ c)
   TakesLatch-pass both =

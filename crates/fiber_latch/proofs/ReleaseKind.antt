@@ -1,4 +1,4 @@
--- A look at the clock, and a new pass.
+-- A look at a word, and a new pass.
 use Rattle.std.proofs.Common.{drop, ◌≡◌, ◌≢◌, ◌⊎◌, ℕ, zero, suc, ◌+◌, ◌<◌, ◌≤◌, List, [], ◌∷◌, ◌++◌, length, get_or, set, sym, refl, ap, ◌∙◌, subst, ⊎_elim}
 use Rattle.std.proofs.Common.{inl, inr, arith, Option, None, true, false, length-set}
 use mathlib.Core.Logic.{dite}
@@ -20,7 +20,7 @@ use Rattle.fiber_latch.specs.declared.rule.Kept as kept
 use Rattle.fiber_latch.specs.declared.rule.SlotValue.{SlotValue}
 use Rattle.fiber_latch.specs.Views.{In, Touches, Owns, IsSession, IsLive, Keeps, Knows, IsKeptMark, IsKnownMark, pass_view, IsLawful, hold}
 use Rattle.fiber_latch.specs.Rule.{IsLastJoin, IsSoundView, IsSoundLatch}
-use Rattle.fiber_latch.specs.Steps.{listed, ReadsClock, without_pass, top_pass}
+use Rattle.fiber_latch.specs.Steps.{listed, ReadsWord, without_pass, top_pass}
 use Rattle.fiber_latch.proofs.MachineLemmas.{run_stays}
 use Rattle.fiber_latch.proofs.LawfulHistories.{lawful_front}
 use Rattle.fiber_latch.proofs.RuleLemmas.{latch_stays, put_here, session_lives}
@@ -44,18 +44,17 @@ at_snoc_here (x ∷ xs) a b (suc j) (suc n) k e = ⊎_elim (λ (t : get_elem? xs
 )) (at_snoc_here xs a b j n (omega arith) e)
 
 module _ {C : Type 0} (good : List Entry → ℕ → kept.Kept C → Type 0) (config : TableConfig) where
-  -- reading the clock leaves the machine
-  pub look_moves : (slots id : ℕ) (v : View) (c : List (ℕ × Option (SlotValue C))) → IsSession v.role
-      → Steps good config slots id (v, c) (config.end + 1) (λ n. n) (ReadsClock (step slots (config.end + 1) 0 0 none) (v, c)) (NothingDone v)
-  look_moves slots id v c session = record {
+  -- reading a word leaves the machine
+  pub look_moves : (slots id i : ℕ) (v : View) (c : List (ℕ × Option (SlotValue C))) → IsSession v.role
+      → Steps good config slots id (v, c) i (λ n. n) (ReadsWord (step slots i 0 0 none) (v, c)) (NothingDone v)
+  look_moves slots id i v c session = record {
     goes = λ st r deep at small.
         let ok = r.each_view id v at (session_lives v.role session) in
         let w : View = record v { last_join = None } in
-        let i : ℕ = config.end + 1 in
         let n : ℕ = get_or st.words i 0 in
         let at_word : (j : ℕ) → get_or (set st.words i n) j 0 ≡ get_or st.words j 0 = λ j. ap (λ (ws : List ℕ). get_or ws j 0) (set-get_or st.words i 0) in
         let next = seat_step good config st r id (config.end
-        + 1) v w (set st.words i n) st.homes at session refl (λ f. f) (length-set st.words i n) refl (at_word i)
+        + 1) v w (set st.words i n) st.homes at session refl (λ f. f) (length-set st.words i n) refl (at_word (config.end + 1))
         (run_stays config st.words r.history r.run r.journal (set st.words i n) (set-get_or st.words i 0))
         record {
           named = ok.named;

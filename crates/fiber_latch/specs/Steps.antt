@@ -65,9 +65,9 @@ with_pass v u = record v {
       (record { mine = v.seen; was = v.role; theirs = u.seen; other = u.role });
 }
 
--- a look at the clock tells what the last join met, and that what was seen is legal
-abbrev pub ReadsClock : {C : Type 0} → Step (Option (SlotValue C)) → Me (Option (SlotValue C)) View → ℕ → Me (Option (SlotValue C)) View → Type 0
-ReadsClock st me n me' = (me' ≡ (record me.0 { last_join = None }, me.1)) × (IsLastJoin me.0.config me.0 me.0.last_join × IsLawful me.0.config me.0.seen)
+-- a look at any word tells what the last join met, and that what was seen is legal
+abbrev pub ReadsWord : {C : Type 0} → Step (Option (SlotValue C)) → Me (Option (SlotValue C)) View → ℕ → Me (Option (SlotValue C)) View → Type 0
+ReadsWord st me n me' = (me' ≡ (record me.0 { last_join = None }, me.1)) × (IsLastJoin me.0.config me.0 me.0.last_join × IsLawful me.0.config me.0.seen)
 
 -- nothing is left to be told of the last join
 abbrev pub without_join : View → View

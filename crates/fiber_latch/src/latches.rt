@@ -23,9 +23,16 @@ use std::sync::atomic::AtomicU64;
 use std::sync::atomic::Ordering::SeqCst;
 use std::thread;
 
-/// How often a take that finds its latch held tries again before it parks. Each time it lets another thread run first,
-/// which takes about a microsecond: in all about as long as four parks with their wakes.
+/// How often a take that finds its latch held tries again before it parks. Each time it looks until it sees the latch free,
+/// or else lets another thread run: in all about as long as ten parks with their wakes, where all threads have processors.
 const TRIES_BEFORE_PARK: u32 = 32;
+
+/// How often a take that finds its latch held looks at the latch's word before it lets another thread run, which is a
+/// system call. The looks take about two microseconds, a few times as long as a call on a cell holds the journal's latch.
+const LOOKS_BEFORE_YIELD: u32 = 20;
+
+/// How many loads of the count of parkers come before each look. They take about a tenth of a microsecond.
+const LOADS_BEFORE_LOOK: u32 = 200;
 
 /// A table of latches: one for each fiber, in order of latches, and the journal's behind them.
 #[derive(Drop)]
@@ -150,13 +157,7 @@ impl<C: Keep> Latches<C> {
         ensures busy { IfErr result (λ b. IsBusy latch seat.old b seat.new) }
         ensures ok { IfOk result (λ y. IsTaken (GoodAt C.content C.sound) latch session seat.old y seat.new) }
     {
-        raw::try_take(
-            &self.table.shared,
-            &mut seat.token,
-            self.end,
-            latch,
-            session,
-        )
+        raw::try_take(&self.table.shared, &mut seat.token, latch, session)
     }
 
     /// Counts a take as one that may park, once it has tried often enough.
@@ -173,13 +174,36 @@ impl<C: Keep> Latches<C> {
         }
     }
 
-    /// Waits for a latch that was found held by this session, before it is tried again: the first few times it only lets
-    /// another thread run.
+    /// Lets a little time pass. It loads a word that seldom changes, which takes no cache line away from any thread.
+    fn pause(&self) {
+        for _load in 0..LOADS_BEFORE_LOOK {
+            self.parkers.load(SeqCst);
+        }
+    }
+
+    /// Whether a look at the latch's word finds it free, of at most `LOOKS_BEFORE_YIELD`. The looks lie apart, since after each
+    /// one the latch's holder has to fetch the word's cache line again.
+    fn is_seen_free(&self, latch: u32) -> bool
+        requires latch { latch ≤ self.now.config.end }
+    {
+        for _look in 0..LOOKS_BEFORE_YIELD {
+            self.pause();
+            if self.table.shared.peek(latch as usize) == 0 {
+                return true;
+            }
+        }
+        false
+    }
+
+    /// Waits for a latch that was found held by this session, before it is tried again: the first few times it only looks
+    /// whether the latch is free, and lets another thread run where it isn't.
     fn wait<R: Wait>(&self, rt: &R, latch: u32, holder: u32, tries: u32)
         requires latch { latch ≤ self.now.config.end }
     {
         if tries < TRIES_BEFORE_PARK {
-            thread::yield_now();
+            if !self.is_seen_free(latch) {
+                thread::yield_now();
+            }
         } else {
             self.table.shared.park(rt, latch as usize, holder);
         }
@@ -188,10 +212,11 @@ impl<C: Keep> Latches<C> {
     /// Takes a latch for one of the seat's sessions, and waits while another seat's session holds it. Latches are taken
     /// in ascending order, the journal's last. It takes no memory, and no clause bounds how long it waits.
     ///
-    /// A take that finds the latch held tries `TRIES_BEFORE_PARK` times more, and lets another thread run before each.
-    /// Most holders give a latch back within a microsecond, and a park with its wake takes about eight. Some keep it
-    /// over a whole call, so then it parks on the latch's word. It tells `park` the holder that its try found: the
-    /// thread sleeps only while the word is still that holder. A take that was woken tries again, and else parks at once.
+    /// A take that finds the latch held tries `TRIES_BEFORE_PARK` times more, each time once `is_seen_free` saw it free or
+    /// another thread was let run. Most holders give a latch back within a microsecond, and a park with its wake takes about
+    /// eight. Some keep it over a whole call, so then it parks on the latch's word. It tells `park` the holder that its try
+    /// found: the thread sleeps only while the word is still that holder. A take that was woken tries again, and else parks
+    /// at once.
     ///
     /// It is counted as one that may park before the try that comes before its first park, and until it has the latch.
     /// `give` says why no wake is lost.

@@ -24,13 +24,13 @@ impl<C: Keep> Play<Option<SlotValue<C>>, View> for GiveStep {
     ghost then = { ReturnsLatch };
 }
 
-/// A load of the clock, after two seats were joined.
+/// A load of some word, after two views were joined.
 pub struct LookStep;
 
 impl<C: Keep> Play<Option<SlotValue<C>>, View> for LookStep {
-    ghost use Rattle.fiber_latch.specs.Steps.{ReadsClock};
+    ghost use Rattle.fiber_latch.specs.Steps.{ReadsWord};
 
-    ghost then = { ReadsClock };
+    ghost then = { ReadsWord };
 }
 
 /// A latch's pass is joined into the seat that took the latch.

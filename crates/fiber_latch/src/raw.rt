@@ -56,17 +56,17 @@ pub fn take_value<C: Keep>(
     top.exchange(token, latch, None).unwrap()
 }
 
-/// Takes in the pass of the latch that was taken last.
+/// Takes in the pass of the latch that was taken last. Any word tells what was met: that of the latch itself is read, which
+/// no other thread writes while the latch is held.
 pub fn absorb_pass<C: Keep>(
     top: &SharedTable<C>,
     token: &mut TableSeat<C>,
-    end: usize,
     latch: usize,
     session: u64,
     pass: Badge<View>,
 )
     requires table { FitsTable top.now.table_id top.now.key token.old.table_id }
-    requires end { end ≡ top.now.key.end }
+    requires latch { latch ≤ top.now.key.end }
     requires pass { (pass.table_id ≡ top.now.table_id) × (pass.views ≡ the_view pass.views ∷ []) }
     requires ready { CanAbsorb token.old.me.0 (the_view pass.views) latch session }
     ensures same { IsSameSeat token.old token.new }
@@ -75,19 +75,17 @@ pub fn absorb_pass<C: Keep>(
 {
     let pass = pass.into_seat();
     top.join_seat::<AbsorbPass>(token, pass);
-    top.load::<LookStep>(token, end + 1);
+    top.load::<LookStep>(token, latch);
 }
 
 /// Takes a latch, or answers the session that holds it.
 pub fn try_take<C: Keep>(
     top: &SharedTable<C>,
     token: &mut TableSeat<C>,
-    end: u32,
     latch: u32,
     session: u32,
 ) -> Result<Kept<C>, Busy>
     requires table { FitsTable top.now.table_id top.now.key token.old.table_id }
-    requires end { end ≡ top.now.key.end }
     requires knows { KnowsTable top.now.table_id top.now.key token.old.me.0 }
     requires ready { CanTry token.old.me.0 session latch }
     ensures same { IsSameSeat token.old token.new }
@@ -103,14 +101,7 @@ pub fn try_take<C: Keep>(
         });
     }
     let SlotValue { kept, pass } = take_value(top, token, latch as usize);
-    absorb_pass(
-        top,
-        token,
-        end as usize,
-        latch as usize,
-        session as u64,
-        pass,
-    );
+    absorb_pass(top, token, latch as usize, session as u64, pass);
     Ok(kept)
 }
 

@@ -83,7 +83,7 @@ pub struct View {
     pub held: LinkedList<Hold>,
     /// The latch and the holder that each failed take found.
     pub conflicts: LinkedList<(u64, u64)>,
-    /// Its last join, until the clock was read.
+    /// Its last join, until a word was read.
     pub last_join: Option<JoinRecord>,
     /// Its table's name.
     pub table: TableName,

@@ -11,6 +11,7 @@
 
 mod cells;
 mod fibers;
+mod parts;
 mod stores;
 #[cfg(test)]
 mod tests;

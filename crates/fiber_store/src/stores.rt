@@ -10,34 +10,24 @@ ghost use Rattle.dt_model.specs.declared.calls.Update.{Update};
 ghost use Rattle.dt_model.specs.declared.declared_tensors.Decls.{Decls};
 ghost use Rattle.fiber_store.specs.Stores.{AreValid, IsInFiber, IsSound, content_of, own, store_content};
 
-use crate::cells::{number_after, number_at, put};
-use crate::fibers::{Fiber, cell_of, keep_own};
-use dt_model::{Cell, Decls, Keep, NoMemory, Nonzeros, PackedPairs, Update, Updates};
+use crate::parts::StoreParts;
+use dt_model::{Cell, Decls, Keep, NoMemory, Nonzeros, Update, Updates};
 use std::alloc::Global;
-use std::collections::VecDeque;
 use std::marker::Model;
-use std::mem;
 
-/// The cells of one fiber, and copies of the updates that it is due. It has 136 bytes. A cell of
-/// order 1 or 2 takes 16 bytes, of order 3 or 4 24, and of order 5 32; a due update takes 56. Room
-/// grows by doubling, and stays. A cell that was emptied stays in the list with the number 0.
+/// The cells of one fiber, and copies of the updates that it is due. It has 8 bytes, and its parts lie in
+/// an allocation of their own: a latch hands a store from session to session, and then only its place moves.
 #[derive(Drop)]
 pub struct FiberStore {
-    alloc: Global,
-    fiber: Fiber,
-    cells: PackedPairs,
-    due: VecDeque<Update>,
+    parts: Box<StoreParts>,
 }
 
 impl Model for FiberStore {
-    ghost use Rattle.fiber_store.specs.Fibers.{IsWhole, state_of};
     ghost use Rattle.fiber_store.specs.Stores.{StoreState};
 
     ghost Value = { StoreState };
 
-    ghost view = { λ a. state_of a.fiber a.cells.pairs a.due.items };
-
-    ghost invariant = { λ a. IsWhole a.fiber a.cells a.due.items };
+    ghost view = { λ a. a.parts.value };
 }
 
 impl Keep for FiberStore {
@@ -49,8 +39,8 @@ impl Keep for FiberStore {
 }
 
 impl FiberStore {
-    /// The store of a fiber with these cells, whose numbers may be 0. It takes one allocation where
-    /// the pairs are packed by the tensor's order.
+    /// The store of a fiber with these cells, whose numbers may be 0. It takes two allocations where
+    /// the pairs are packed by the tensor's order: one is for the parts.
     pub fn open(
         alloc: Global,
         decls: &Decls,
@@ -67,13 +57,9 @@ impl FiberStore {
         ensures content { IfOk result (λ s. store_content s ≡ content_of tensor pairs.now) }
         ensures due { IfOk result (λ s. s.due ≡ []) }
     {
-        let fiber = Fiber::of(decls, tensor, fiber);
-        let cells = pairs.packed(alloc, fiber.dims.len())?;
+        let parts = StoreParts::open(alloc, decls, tensor, fiber, pairs)?;
         Ok(FiberStore {
-            alloc,
-            fiber,
-            cells,
-            due: VecDeque::new(alloc),
+            parts: Box::new(alloc, parts)?,
         })
     }
 
@@ -86,12 +72,7 @@ impl FiberStore {
         ensures due { OnOk result ((d : Decls) (w : ℕ) → IsSound d w self.old → AreValid d updates.now → self.new.due ≡ own d w updates.now) }
         ensures full { OnErr result (self.new.due ≡ []) }
     {
-        let mut due = mem::replace(&mut self.due, VecDeque::new(self.alloc));
-        due.clear();
-        keep_own(&self.fiber, updates, &mut due)?;
-        self.cells.reserve(due.len())?;
-        self.due = due;
-        Ok(())
+        self.parts.prepare(updates)
     }
 
     /// A copy of the update that is due first, if there is one.
@@ -99,10 +80,7 @@ impl FiberStore {
         ensures some { IfSome result (λ update. (rest : List Update) × (self.now.due ≡ update ∷ rest)) }
         ensures none { MatchOption result (self.now.due ≡ []) (λ update. Unit {0}) }
     {
-        match self.due.front() {
-            Some(update) => Some(update.copy()),
-            None => None,
-        }
+        self.parts.first_due()
     }
 
     /// Makes the update that is due first. It takes no memory, and the time of two binary searches; a
@@ -113,9 +91,7 @@ impl FiberStore {
         ensures sound { (d : Decls) (w : ℕ) → IsSound d w self.old → IsSound d w self.new }
         ensures due { (rest : List Update) → self.old.due ≡ update.now ∷ rest → self.new.due ≡ rest }
     {
-        let number = number_after(&self.cells, update);
-        put(&mut self.cells, &cell_of(update).at, number);
-        self.due.pop_front();
+        self.parts.apply(update);
     }
 
     /// The number in a cell, 0 where the store has none. It has no cell of another tensor. It takes a
@@ -123,11 +99,7 @@ impl FiberStore {
     pub fn get(&self, cell: &Cell) -> u64
         ensures value { result ≡ store_content self.now cell.now.tensor cell.now.at }
     {
-        if cell.tensor == self.fiber.tensor {
-            number_at(&self.cells, &cell.at)
-        } else {
-            0
-        }
+        self.parts.get(cell)
     }
 
     /// The cells whose number isn't 0, in ascending order. It takes one allocation, and time by the
@@ -136,6 +108,6 @@ impl FiberStore {
         ensures cells { IfOk result (λ pairs. pairs ≡ without_zeros self.now.cells) }
         ensures value { IfOk result (λ pairs. (d : Decls) (w : ℕ) → IsSound d w self.now → pairs ≡ nonzeros (store_content self.now self.now.tensor) (all_below (dims_of d self.now.tensor))) }
     {
-        Nonzeros::nonzeros_of(self.alloc, &self.cells)
+        self.parts.pairs()
     }
 }

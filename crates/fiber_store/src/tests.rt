@@ -302,5 +302,5 @@ fn a_later_batch_drops_what_was_due(rt: HostRuntime) -> Result<(), Fail> {
 #[test]
 fn sizes_are_as_said(rt: HostRuntime) {
     assert_eq!(rt; size_of::<Fiber>(), 48);
-    assert_eq!(rt; size_of::<FiberStore>(), 136);
+    assert_eq!(rt; size_of::<FiberStore>(), 8);
 }

@@ -1,11 +1,10 @@
-use Rattle.std.proofs.Common.{ℕ, Option, ◌≡◌, ◌+◌, ◌<◌, ◌∷◌, [], arith, sym, ap, ◌∙◌, subst, rules}
+use Rattle.std.proofs.Common.{ℕ, Option, ◌≡◌, ◌<◌, ◌∷◌, [], arith, sym, ap, ◌∙◌, subst}
 use Rattle.fiber_latch.specs.declared.view.View.{View}
 use Rattle.fiber_latch.specs.Views.{spent_view, IsSession}
 use Rattle.fiber_latch.specs.Rule.{Good, KeepsRule}
-use Rattle.fiber_latch.specs.Steps.{with_pass, ReadsClock}
+use Rattle.fiber_latch.specs.Steps.{with_pass}
 use Rattle.fiber_latch.specs.Conditions.{config_of, the_view}
-use Rattle.atomic_table.specs.Table.{Joins, Allows, Me, step}
-use mathlib.Core.Option.{none}
+use Rattle.atomic_table.specs.Table.{Joins, Me}
 use Rattle.fiber_latch.specs.declared.rule.SlotValue.{SlotValue}
 use Rattle.fiber_latch.proofs.AbsorbKind.{absorb_moves}
 use Rattle.fiber_latch.proofs.ReleaseKind.{look_moves}
@@ -14,9 +13,6 @@ use Rattle.fiber_latch.proofs.raw.absorb_pass.Goals as goal
 
 same_view : (a b : View) → a ∷ [] ≡ b ∷ [] → a ≡ b
 same_view a b e = ap the_view e
-
-pub overflow_add-end : goal.overflow_add-end
-overflow_add-end g c = let a = c.requires.table.sized.small in let b = c.requires.end in search rules
 
 pub join_seat-requires : goal.join_seat-requires
 join_seat-requires g c =
@@ -46,11 +42,9 @@ load-requires g c =
     let slots : ℕ = c.args.top.now.table_id.slots in
     let session : IsSession seat.me.0.role = subst (λ (m : Me (Option (SlotValue g.row.C.Denot)) View). IsSession m.0.role) (sym j.2)
     c.requires.ready.session in
-    let word : c.args.end + 1 < c.args.top.now.table_id.words = let a = t.sized.words in let b = c.requires.end in omega arith in (
+    let word : c.args.latch < c.args.top.now.table_id.words = let a = t.sized.words in let b = c.requires.latch in omega arith in (
       j.0 ∙ t.same,
       word,
-      subst (λ (n : ℕ). Allows (KeepsRule (config_of key) (Good g.C.Keep.content g.C.Keep.sound (config_of key))) slots seat.id seat.me (n
-          + 1) (λ x. x) (ReadsClock (step slots (n + 1) 0 0 none) seat.me)) (sym c.requires.end)
-          (allows (Good g.C.Keep.content g.C.Keep.sound (config_of key)) (config_of key)
-          (look_moves (Good g.C.Keep.content g.C.Keep.sound (config_of key)) (config_of key) slots seat.id seat.me.0 seat.me.1 session)),
+      allows (Good g.C.Keep.content g.C.Keep.sound (config_of key)) (config_of key)
+          (look_moves (Good g.C.Keep.content g.C.Keep.sound (config_of key)) (config_of key) slots seat.id c.args.latch seat.me.0 seat.me.1 session),
     )

@@ -2,11 +2,10 @@ use Rattle.std.proofs.Common.{ℕ, Option, ◌≡◌, ◌+◌, ◌<◌, arith, s
 use Rattle.fiber_latch.specs.declared.view.View.{View}
 use Rattle.fiber_latch.specs.declared.view.Role.TheVariants.{Sessions}
 use Rattle.fiber_latch.specs.Views.{IsSession}
-use Rattle.fiber_latch.specs.Rule.{Good, KeepsRule}
-use Rattle.fiber_latch.specs.Steps.{ReadsClock, joined_role}
+use Rattle.fiber_latch.specs.Rule.{Good}
+use Rattle.fiber_latch.specs.Steps.{joined_role}
 use Rattle.fiber_latch.specs.Conditions.{config_of}
-use Rattle.atomic_table.specs.Table.{Allows, Me, step}
-use mathlib.Core.Option.{none}
+use Rattle.atomic_table.specs.Table.{Me}
 use Rattle.fiber_latch.specs.declared.rule.SlotValue.{SlotValue}
 use Rattle.fiber_latch.proofs.SessionKinds.{join_moves}
 use Rattle.fiber_latch.proofs.ReleaseKind.{look_moves}
@@ -42,8 +41,6 @@ load-requires g c =
     let word : c.args.end + 1 < c.args.top.now.table_id.words = let a = t.sized.words in let b = c.requires.end in omega arith in (
       j.0 ∙ t.same,
       word,
-      subst (λ (n : ℕ). Allows (KeepsRule (config_of key) (Good g.C.Keep.content g.C.Keep.sound (config_of key))) slots seat.id seat.me (n
-          + 1) (λ x. x) (ReadsClock (step slots (n + 1) 0 0 none) seat.me)) (sym c.requires.end)
-          (allows (Good g.C.Keep.content g.C.Keep.sound (config_of key)) (config_of key)
-          (look_moves (Good g.C.Keep.content g.C.Keep.sound (config_of key)) (config_of key) slots seat.id seat.me.0 seat.me.1 session)),
+      allows (Good g.C.Keep.content g.C.Keep.sound (config_of key)) (config_of key)
+          (look_moves (Good g.C.Keep.content g.C.Keep.sound (config_of key)) (config_of key) slots seat.id (c.args.end + 1) seat.me.0 seat.me.1 session),
     )

@@ -1,5 +1,6 @@
 use Rattle.fiber_latch.specs.Conditions.{the_view}
-use Rattle.std.proofs.Common.{[], ◌∷◌, sym, ap, ◌∙◌}
+use Rattle.std.proofs.Common.{◌≤◌, [], ◌∷◌, sym, ap, ◌∙◌, subst}
+use Rattle.fiber_latch.specs.declared.view.TableConfig.{TableConfig}
 use Rattle.fiber_latch.proofs.RuleLemmas.{owner_is_session}
 use Rattle.fiber_latch.proofs.ConditionsLemmas.{TakesLatch-steps, same_value}
 use Rattle.fiber_latch.proofs.raw.try_take.Goals as goal
@@ -8,6 +9,9 @@ pub absorb_pass-requires-clause-table : goal.absorb_pass-requires-clause-table
 absorb_pass-requires-clause-table g c =
     let t = c.requires.table in
     record { same = c.take_value-kept.ensures.same.table ∙ c.take_step-found.ensures.same.table ∙ t.same; sized = t.sized }
+
+pub absorb_pass-requires-clause-latch : goal.absorb_pass-requires-clause-latch
+absorb_pass-requires-clause-latch g c = subst (λ (x : TableConfig). c.args.latch ≤ x.end) c.requires.knows.config c.requires.ready.inside
 
 pub absorb_pass-requires-clause-pass : goal.absorb_pass-requires-clause-pass
 absorb_pass-requires-clause-pass g c =

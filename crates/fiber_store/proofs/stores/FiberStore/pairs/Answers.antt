@@ -1,10 +1,11 @@
-use Rattle.std.proofs.Common.{ap, ◌∙◌}
-use Rattle.sums.proofs.RowsLemmas.{if_both}
-use Rattle.commit_core.specs.Cells.{without_zeros}
-use Rattle.fiber_store.proofs.StoresLemmas.{without_zeros-sound}
+use Rattle.std.proofs.Common.{◌≡◌, ℕ, IfOk, ◌∙◌, subst}
+use Rattle.dt_model.specs.Statements.{all_below, nonzeros}
+use Rattle.dt_model.specs.Tensors.{dims_of}
+use Rattle.dt_model.specs.declared.declared_tensors.Decls.{Decls}
+use Rattle.fiber_store.specs.Stores.{StoreState, IsSound, store_content}
 use Rattle.fiber_store.proofs.stores.FiberStore.pairs.Goals as goal
 
 pub returns-clause-value : goal.returns-clause-value
 returns-clause-value c =
-    if_both c.nonzeros_of.result (λ pairs is small d w sound. without_zeros-sound d w c.args.self.now pairs sound (is
-    ∙ ap (λ s. without_zeros s.cells) c.self.view_is) small) c.nonzeros_of.ensures.value c.nonzeros_of.ensures.small
+    subst (λ (s : StoreState). IfOk c.pairs.result (λ pairs. (d : Decls) (w : ℕ) → IsSound d w s
+    → pairs ≡ nonzeros (store_content s s.tensor) (all_below (dims_of d s.tensor)))) (c.deref.ensures ∙ c.self.view_is) c.pairs.ensures.value

@@ -2,7 +2,7 @@ use Rattle.std.proofs.Common.{rules, ◌≤◌, length, sym, ◌∙◌, subst}
 use Rattle.fiber_store.specs.Stores.{IsSound}
 use Rattle.fiber_store.proofs.FibersLemmas.{filter-own}
 use Rattle.fiber_store.proofs.WholeStores.{IsWhole-kept}
-use Rattle.fiber_store.proofs.stores.FiberStore.prepare.Goals as goal
+use Rattle.fiber_store.proofs.parts.StoreParts.prepare.Goals as goal
 
 pub invariant_of-self-2 : goal.invariant_of-self-2
 invariant_of-self-2 c =

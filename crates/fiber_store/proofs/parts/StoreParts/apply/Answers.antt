@@ -5,7 +5,7 @@ use Rattle.fiber_store.specs.Fibers.{IsWhole, Writes}
 use Rattle.fiber_store.specs.Stores.{IsSound, store_content}
 use Rattle.fiber_store.proofs.StoresLemmas.{IsSound-Writes, content_of-due}
 use Rattle.fiber_store.proofs.WholeStores.{IsWhole-made, due_first, length-due_first}
-use Rattle.fiber_store.proofs.stores.FiberStore.apply.Goals as goal
+use Rattle.fiber_store.proofs.parts.StoreParts.apply.Goals as goal
 
 pub put-requires-clause-same : goal.put-requires-clause-same
 put-requires-clause-same c =

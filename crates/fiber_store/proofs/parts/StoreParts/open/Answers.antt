@@ -2,7 +2,7 @@ use Rattle.std.proofs.Common.{ap, sym, ◌∙◌, length}
 use Rattle.std.specs.Prelude.{slice_index_or}
 use Rattle.dt_model.specs.Tensors.{dims_of}
 use Rattle.fiber_store.proofs.FibersLemmas.{length-in_range}
-use Rattle.fiber_store.proofs.stores.FiberStore.open.Goals as goal
+use Rattle.fiber_store.proofs.parts.StoreParts.open.Goals as goal
 
 -- the cells are in range, so they have the tensor's order
 pub packed-requires-clause-same : goal.packed-requires-clause-same

@@ -1,6 +1,6 @@
 use Rattle.std.proofs.Common.{◌≡◌, ◌<◌, List, [], ◌∷◌, length, get_or, drop, ap, sym, ◌∙◌, arith}
 use Rattle.dt_model.specs.declared.calls.Update.{Update}
-use Rattle.fiber_store.proofs.stores.FiberStore.first_due.Goals as goal
+use Rattle.fiber_store.proofs.parts.StoreParts.first_due.Goals as goal
 
 first_rest : (xs : List Update) (u : Update) → 0 < length xs → u ≡ get_or xs 0 u → xs ≡ u ∷ drop 1 xs
 first_rest [] u some is = absurd (omega arith)
