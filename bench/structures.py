@@ -1,37 +1,74 @@
 #!/usr/bin/env python3
-"""Times work over one structure: python3 bench/structures.py [--program COMMAND] [--count N] [SHAPE..]
+"""Times work over one structure: python3 bench/structures.py [--program COMMAND] [--count N] [--insertions] [SHAPE..]
 
 Runs `structure_bench SHAPE COUNT WHAT TURNS` from outside, each kind of work in turn, and subtracts what comes before it: of a build the run
 that makes the list alone, of a walk and of look-ups the run that builds. The work on a plain list is timed in the same turns, and the ratios
 are against it. Each time is the processor's, and the least of the turns. The sums that the runs print are compared with sums that are
 computed here. Coordinates aren't looked up in a chain, which is passed from its head each time.
+
+With `--insertions` it runs `structure_bench insert TARGET SEQUENCE COUNT` in place of this: elements are put in one by one. The run that only
+goes through the sequence is subtracted, and the ratios are against the ordered map of the standard library.
 """
 
 import os
+import re
 import subprocess
 import sys
+import time
 from pathlib import Path
 
 HERE = Path(__file__).resolve().parent
 PROGRAM = HERE.parent / "crates/structure_bench/out/structure_bench"
 SHAPES = ["flat", "list", "bst", "tree"]
+INSERTION_SHAPES = [*SHAPES, "mixed"]
+SEQUENCES = ["ascending", "descending", "random"]
 RUNS = 7
+INSERTION_RUNS = 3
 # How often each kind of work is done within a run.
 WALKS = 40
 LOOK_UPS = 100_000
 MASK = (1 << 64) - 1
 
 
-def run_once(program, shape, count, what, turns):
+def full_pipe():
+    """The ends of a pipe that is full, and how many bytes are in it."""
+    reader, writer = os.pipe()
+    os.set_blocking(writer, False)
+    filled = 0
+    try:
+        while True:
+            filled += os.write(writer, bytes(4096))
+    except BlockingIOError:
+        os.set_blocking(writer, True)
+    return reader, writer, filled
+
+
+def peak_when_done(pid):
+    """The peak memory in KiB of a program that waits to print its answer: its own, which the one that is told at its end isn't."""
+    asleep = 0
+    while asleep < 2:
+        time.sleep(0.001)
+        status = Path(f"/proc/{pid}/status").read_text()
+        state = re.search(r"^State:\s+(\w)", status, re.M)[1]
+        if state == "Z":
+            return 0
+        asleep = asleep + 1 if state == "S" else 0
+    return int(re.search(r"^VmHWM:\s+(\d+)", status, re.M)[1])
+
+
+def run_once(program, words):
     """The seconds on the processor, the peak memory in KiB and the sum of one run."""
-    child = subprocess.Popen([program, shape, str(count), what, str(turns)], stdout=subprocess.PIPE)
-    printed = child.stdout.read()
+    reader, writer, filled = full_pipe()
+    child = subprocess.Popen([program, *words], stdout=writer)
+    os.close(writer)
+    peak = peak_when_done(child.pid)
+    with os.fdopen(reader, "rb") as pipe:
+        printed = pipe.read()[filled:]
     _, status, used = os.wait4(child.pid, 0)
-    seconds = used.ru_utime + used.ru_stime
     child.returncode = os.waitstatus_to_exitcode(status)
     if child.returncode != 0:
-        sys.exit(f"{shape} {what} ended with status {child.returncode}")
-    return seconds, used.ru_maxrss, int(printed)
+        sys.exit(f"{' '.join(words)} ended with status {child.returncode}")
+    return used.ru_utime + used.ru_stime, peak, int(printed)
 
 
 def walk_sum(count, turns):
@@ -98,7 +135,7 @@ def least_times(program, shape, count, works):
     times, peaks = {}, {}
     for _ in range(RUNS):
         for what, turns, _, wanted, _ in [("nothing", 1, None, 0, None), *works]:
-            seconds, peak, got = run_once(program, shape, count, what, turns)
+            seconds, peak, got = run_once(program, [shape, str(count), what, str(turns)])
             if got != wanted:
                 sys.exit(f"{shape} {what}: {got} and not {wanted}")
             times[what] = min(seconds, times.get(what, seconds))
@@ -118,19 +155,70 @@ def print_shape(program, shape, count):
     print(f"  {'bytes':14} {1024 * (peaks['build'] - peaks['list']) / count:9.1f} an element beside the list")
 
 
+def random_turns(count):
+    """The turn at which each coordinate comes in the random sequence."""
+    span = 1
+    while span < count:
+        span *= 2
+    turns, at = [0] * count, 0
+    for turn in range(span):
+        at = (at * 1664525 + 1013904223) % span
+        if at < count:
+            turns[at] = turn
+    return turns
+
+
+def insertion_sum(sequence, count):
+    """The turns of all coordinates, added up in the order of the coordinates."""
+    turns = {
+        "ascending": lambda: range(count),
+        "descending": lambda: range(count - 1, -1, -1),
+        "random": lambda: random_turns(count),
+    }[sequence]()
+    total = 0
+    for turn in turns:
+        total = (31 * total + turn) & MASK
+    return total
+
+
+def print_insertions(program, sequence, count, shapes):
+    """Times insertions in one order, and prints a row for each target."""
+    wanted = insertion_sum(sequence, count)
+    times, peaks = {}, {}
+    for _ in range(INSERTION_RUNS):
+        for target in ["nothing", "map", *shapes]:
+            seconds, peak, got = run_once(program, ["insert", target, sequence, str(count)])
+            if got != (count if target == "nothing" else wanted):
+                sys.exit(f"insert {target} {sequence}: {got} and not {wanted}")
+            times[target] = min(seconds, times.get(target, seconds))
+            peaks[target] = min(peak, peaks.get(target, peak))
+    print(f"{count:,} insertions, {sequence}")
+    map_time = times["map"] - times["nothing"]
+    for target in ["map", *shapes]:
+        spent = times[target] - times["nothing"]
+        room = 1024 * (peaks[target] - peaks["nothing"]) / count
+        print(f"  {target:14} {1000 * spent:9.1f} ms  {spent / map_time:7.2f} x map  {room:7.1f} bytes an element")
+
+
 def main(words):
     """Reads the options, and times the shapes that are named, or all."""
-    program, count, shapes = PROGRAM, 700_000, []
+    program, count, shapes, is_insertions = PROGRAM, None, [], False
     while words:
         word = words.pop(0)
         if word == "--program":
             program = words.pop(0)
         elif word == "--count":
             count = int(words.pop(0))
+        elif word == "--insertions":
+            is_insertions = True
         else:
             shapes.append(word)
-    for shape in shapes or SHAPES:
-        print_shape(program, shape, count)
+    if is_insertions:
+        for sequence in SEQUENCES:
+            print_insertions(program, sequence, count or 100_000, shapes or INSERTION_SHAPES)
+    else:
+        for shape in shapes or SHAPES:
+            print_shape(program, shape, count or 700_000)
 
 
 main(sys.argv[1:])

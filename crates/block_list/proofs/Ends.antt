@@ -1,6 +1,6 @@
 -- What is done at a node of a chain is done to the structure that begins there.
 use Rattle.std.proofs.Common.{◌≡◌, ◌≢◌, ◌≤◌, ◌+◌, ℕ, List, [], ◌∷◌, ◌++◌, length, Option, Some, None, IsSome, refl, ap, ◌∙◌, sym, subst, arith}
-use Rattle.std.specs.Prelude.{slice_set}
+use Rattle.std.specs.Prelude.{slice_set, is_some}
 use Rattle.node_arena.specs.declared.elements.Elem.{Elem}
 use Rattle.node_arena.specs.declared.kinds.NodeKind.{NodeKind}
 use Rattle.node_arena.specs.declared.kinds.Shape.{Shape}
@@ -9,14 +9,15 @@ use Rattle.node_arena.specs.Arenas.{ArenaState, NodeState, node_at, ChangesNode}
 use Rattle.node_arena.specs.Conforming.{Hang, IsLevel, spine, whole}
 use Rattle.node_arena.specs.Insertions.{put_in, all_put_in}
 use Rattle.node_arena.specs.Kinds.{kind_at, shape_at}
-use Rattle.node_arena.specs.Passing.{PutsAt, IsDone}
+use Rattle.node_arena.specs.Passing.{PutsAt, IsDone, Deepens, wedge_depth}
 use Rattle.node_arena.specs.Rules.{post_of}
 use Rattle.node_arena.specs.Trees.{Trees, done, absent, node, roots, stored, Stands, Avoids, IsReachedOnce}
 use Rattle.node_arena.specs.Walks.{walk}
 use Rattle.node_arena.proofs.ChangesLemmas.{node_differs}
-use Rattle.node_arena.proofs.FramesLemmas.{Stands-changed, Avoids-free}
+use Rattle.node_arena.proofs.DepthsLemmas.{Deepens-same, wedge_depth-ends}
+use Rattle.node_arena.proofs.FramesLemmas.{Stands-changed, Avoids-free, IsApart-done}
 use Rattle.block_list.specs.Chains.{links_behind}
-use Rattle.block_list.proofs.Parts.{IsApart-done, hang-chain, hang-post, hang-ends, level-post, level-ends, spine-post, spine-ends}
+use Rattle.block_list.proofs.Parts.{hang-chain, hang-post, hang-ends, level-post, level-ends, spine-post, spine-ends}
 use Rattle.block_list.proofs.Walks.{walk-chain, walk-half}
 
 -- a node of a chain that stands, and what its schema says of it
@@ -40,8 +41,8 @@ module _ (s : List NodeKind) (x : Elem) (i k p : ℕ) (run : List Elem) (ls : Tr
       → IsSome (node_at b i) → ((j : ℕ) → j ≢ i → node_at b j ≡ node_at a j)
       → PutsAt s p b c xs ls v → roots v ≡ top ∷ []
       → ChangesNode c d i (Some (record { kind = k; run = cut; links = slice_set (roots ls) 0 top }))
-      → IsDone s a d x (node i k run ls done)
-  linked a b c d cut xs r top v l one low high put some same w root e =
+      → (deep : Option ℕ) → Deepens deep (spine s ls) (spine s v) → IsDone s a d x (node i k run ls done) deep
+  linked a b c d cut xs r top v l one low high put some same w root e deep deepens =
       let tops : slice_set (roots ls) 0 top ≡ roots v = ap (λ ts. slice_set ts 0 top) one ∙ sym root in
       let at : node_at d i ≡ Some (stored k cut v) = e.node.changed ∙ ap (λ ts. Some (record { kind = k; run = cut; links = ts })) tops in
       let away : Avoids i v = w.news i some l.once.0 in
@@ -65,12 +66,14 @@ module _ (s : List NodeKind) (x : Elem) (i k p : ℕ) (run : List Elem) (ls : Tr
               let off : j ≢ i = λ f. away_j.0 (sym f) in
               (away_j.0, w.news j (subst IsSome (sym (same j off)) h) away_j.1, tt);
         };
+        deepens = Deepens-same deep (spine s ls) (spine s v) (spine s (node i k run ls done)) (spine s (node i k cut v done))
+            (spine-post s i k p run ls l.shape) (spine-post s i k p cut v l.shape) deepens;
       }
 
   -- the run takes x
   pub fitted : (a b : ArenaState) (wider : List Elem) → Link s a i k p run ls → IsLevel s (node i k run ls done) → 1 ≤ length wider
       → length wider ≤ (kind_at s k).hi → wider ++ walk s ls ≡ put_in x (run ++ walk s ls)
-      → ChangesNode a b i (Some (stored k wider ls)) → IsDone s a b x (node i k run ls done)
+      → ChangesNode a b i (Some (stored k wider ls)) → IsDone s a b x (node i k run ls done) (Some 0)
   fitted a b wider l lev low high put e = record {
     tree = node i k wider ls done;
     same_root = refl;
@@ -86,6 +89,8 @@ module _ (s : List NodeKind) (x : Elem) (i k p : ℕ) (run : List Elem) (ls : Tr
       keeps = λ j h away. e.node.others j (λ f. away.0 (sym f));
       news = λ j h away. away;
     };
+    deepens = Deepens-same (Some 0) (spine s ls) (spine s ls) (spine s (node i k run ls done)) (spine s (node i k wider ls done))
+        (spine-post s i k p run ls l.shape) (spine-post s i k p wider ls l.shape) (omega arith);
   }
 
   -- a new node of the kind behind, whose links are as the kind has them
@@ -95,6 +100,7 @@ module _ (s : List NodeKind) (x : Elem) (i k p : ℕ) (run : List Elem) (ls : Tr
     pub hangs : Hang s (whole s p ∷ []) (node j p upper behind done)
     pub level : IsLevel s ls → IsLevel s (node j p upper behind done)
     pub spine_low : spine s (node j p upper behind done) ≤ 1 + spine s ls
+    pub deepens : Deepens (wedge_depth (shape_at s p) (is_some r) 0) (spine s ls) (spine s (node j p upper behind done))
     pub walk_is : walk s (node j p upper behind done) ≡ upper ++ walk s ls
     pub stands : (a : ArenaState) → Stands a ls → Stands a behind
     pub away : (m : ℕ) → Avoids m ls → Avoids m behind
@@ -115,6 +121,8 @@ module _ (s : List NodeKind) (x : Elem) (i k p : ℕ) (run : List Elem) (ls : Tr
         hangs = hang-post s j p p upper ls shape lo low high h;
         level = λ lev. (level-post s p p ls shape, lev, tt);
         spine_low = let f : spine s (node j p upper ls done) ≡ spine s ls = spine-post s j p p upper ls shape in omega arith;
+        deepens = subst (λ sh. Deepens (wedge_depth sh (is_some r) 0) (spine s ls) (spine s (node j p upper ls done))) (sym e)
+            (let f : spine s (node j p upper ls done) ≡ spine s ls = spine-post s j p p upper ls shape in omega arith);
         walk_is = walk-chain s j p p upper ls shape;
         stands = λ a st. st;
         away = λ m v. v;
@@ -129,6 +137,8 @@ module _ (s : List NodeKind) (x : Elem) (i k p : ℕ) (run : List Elem) (ls : Tr
         hangs = hang-ends s j p q0 p upper ls shape lo low high h;
         level = λ lev. (level-ends s p q0 p (absent ls) shape, lev, tt);
         spine_low = let f : spine s (node j p upper (absent ls) done) ≡ 1 + spine s (absent ls) = spine-ends s j p q0 p upper (absent ls) shape in omega arith;
+        deepens = subst (λ sh. Deepens (wedge_depth sh (is_some r) 0) (spine s ls) (spine s (node j p upper (absent ls) done))) (sym e)
+            (wedge_depth-ends s ls q0 q _ r one (spine-ends s j p q0 p upper (absent ls) shape));
         walk_is = walk-half s j p q0 p upper ls shape;
         stands = λ a st. st;
         away = λ m v. v;
@@ -141,7 +151,7 @@ module _ (s : List NodeKind) (x : Elem) (i k p : ℕ) (run : List Elem) (ls : Tr
       → lower ++ (upper ++ walk s ls) ≡ put_in x (run ++ walk s ls) → node_at a j ≡ None
       → ChangesNode a c j (Some (record { kind = p; run = upper; links = links_behind (shape_at s p) r }))
       → ChangesNode c b i (Some (record { kind = k; run = lower; links = Some j ∷ [] }))
-      → IsDone s a b x (node i k run ls done)
+      → IsDone s a b x (node i k run ls done) (wedge_depth (shape_at s p) (is_some r) 0)
   wedged a c b j lower upper r l w low high put free e1 e2 =
       let some : IsSome (node_at a i) = some-node a i (stored k run ls) l.stands.0 in
       let differ : j ≢ i = node_differs a i j some free in
@@ -173,4 +183,7 @@ module _ (s : List NodeKind) (x : Elem) (i k p : ℕ) (run : List Elem) (ls : Tr
           keeps = λ m h away. e2.node.others m (λ f. away.0 (sym f)) ∙ e1.node.others m (λ f. node_differs a m j h free (sym f));
           news = λ m h away. (away.0, (node_differs a m j h free, w.away m away.1, tt), tt);
         };
+        deepens = Deepens-same (wedge_depth (shape_at s p) (is_some r) 0) (spine s ls) (spine s (node j p upper w.behind done)) (spine s (node i k run ls done))
+            (spine s (node i k lower (node j p upper w.behind done) done)) (spine-post s i k p run ls l.shape)
+            (spine-post s i k p lower (node j p upper w.behind done) l.shape) w.deepens;
       }

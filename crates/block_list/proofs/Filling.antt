@@ -121,9 +121,9 @@ module _ (s : List NodeKind) (sound : AreSound s) (a b : ArenaState) (x : Elem) 
     }
 
     -- with the element in, and marked, there is such a chain again
-    done-holds : x.at < length marks → get_or marks x.at false ≡ false → IsLow s (n + 1) → (d : IsDone s a b x t)
+    done-holds : x.at < length marks → get_or marks x.at false ≡ false → IsLow s (n + 1) → (deep : Option ℕ) (d : IsDone s a b x t deep)
         → Holds s b i (n + 1) (set marks x.at true) d.tree
-    done-holds l free low d =
+    done-holds l free low deep d =
         let hangs : Hang s (whole s h.kind ∷ []) d.tree = d.puts.hangs h.kind h.conforms.hangs in
         let root : get_or (roots d.tree) 0 None ≡ Some i = ap (λ ts. get_or ts 0 None) (d.same_root ∙ ap roots h.is) in
         let top : IsNode i h.kind d.tree = next-node s h.kind i d.tree hangs root in
@@ -161,8 +161,8 @@ module _ (s : List NodeKind) (sound : AreSound s) (a b : ArenaState) (x : Elem) 
     -- what an insertion leaves
     pub put-holds : x.at < length marks → get_or marks x.at false ≡ false → IsLow s (n + 1) → (step : Step) (m p : ℕ) → Leaves s a b x t step m p
         → HoldsAfter s b i (n + 1) (set marks x.at true) step
-    put-holds l free low Done m p d = (d.tree, done-holds l free low d)
-    put-holds l free low (Pass j at_side xs) m p q = some-node b j q.passer q.there
+    put-holds l free low (Done deep) m p d = (d.tree, done-holds l free low deep d)
+    put-holds l free low (Pass j at_side xs above) m p q = some-node b j q.passer q.there
 
     -- one more is counted
     pub still-holds : Holds s a i (n + 1) marks t
@@ -257,9 +257,9 @@ module _ (s : List NodeKind) (sound : AreSound s) (a b : ArenaState) (x : Elem) 
 
 -- what is left can be read
 pub readable : (s : List NodeKind) (a : ArenaState) (i n : ℕ) (marks : List Bool) (step : Step) → HoldsAfter s a i n marks step → IsReadable a i step
-readable s a i n marks Done h = (h.0, record { stands = h.1.stands; place = 0; is = ap (λ ts. get_or ts 0 None) (sym (ap roots h.1.is)) })
-readable s a i n marks (Pass j at_side xs) h = h
+readable s a i n marks (Done deep) h = (h.0, record { stands = h.1.stands; place = 0; is = ap (λ ts. get_or ts 0 None) (sym (ap roots h.1.is)) })
+readable s a i n marks (Pass j at_side xs above) h = h
 
 -- a step that is there can be read
-pub step-readable : (s : List NodeKind) (a : ArenaState) (i n : ℕ) (marks : List Bool) (t : Trees) → Holds s a i n marks t → IsReadable a i Done
+pub step-readable : (s : List NodeKind) (a : ArenaState) (i n : ℕ) (marks : List Bool) (t : Trees) → Holds s a i n marks t → IsReadable a i (Done (Some 0))
 step-readable s a i n marks t h = (t, record { stands = h.stands; place = 0; is = ap (λ ts. get_or ts 0 None) (sym (ap roots h.is)) })

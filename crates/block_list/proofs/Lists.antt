@@ -6,7 +6,7 @@ use Rattle.node_arena.specs.Arenas.{place_in, coordinate_at}
 use Rattle.node_arena.specs.Conforming.{RisesFrom, IsRising}
 use Rattle.node_arena.specs.Insertions.{put_in}
 use Rattle.node_arena.specs.Passing.{AllLack}
-use Rattle.node_arena.proofs.PutInLemmas.{put_in-place, Lacks-low, RisesFrom-suffix, RisesFrom-rising}
+use Rattle.node_arena.proofs.PutInLemmas.{RisesFrom-suffix}
 use Rattle.block_list.specs.Chains.{AllBelow, Stops, first_of}
 
 -- ---- where x goes
@@ -30,15 +30,6 @@ put_in-within x (e ∷ xs) ys (inl h) =
     let t : ltb e.at x.at ≡ false = grind (arith, h) in
     rw t refl
 put_in-within x (e ∷ xs) ys (inr h) = within-step x e xs ys (put_in x (xs ++ ys)) (ltb e.at x.at) (put_in-within x xs ys h)
-
-low-step : (b : Bool) (i n : ℕ) → i ≤ n → cond b (suc i) 0 ≤ suc n
-low-step true i n h = omega arith
-low-step false i n h = omega arith
-
--- the place is at most the length
-pub place_in-low : (at : ℕ) (xs : List Elem) → place_in at xs ≤ length xs
-place_in-low at [] = omega arith
-place_in-low at (e ∷ xs) = low-step (ltb e.at at) (place_in at xs) (length xs) (place_in-low at xs)
 
 -- ---- the order
 
@@ -66,19 +57,6 @@ first-append (x ∷ xs) ys h = refl
 pub first-below : (n : ℕ) (xs : List Elem) → AllBelow n xs → 1 ≤ length xs → first_of xs < n
 first-below n [] b l = absurd (omega arith)
 first-below n (y ∷ ys) b l = b.0
-
-RisesFrom-after : (n : ℕ) (xs ys : List Elem) → RisesFrom n (xs ++ ys) → RisesFrom n ys
-RisesFrom-after n [] ys h = h
-RisesFrom-after n (x ∷ xs) ys h = lower n x.at ys h.0 (RisesFrom-after x.at xs ys h.1)
-  where
-    lower : (n m : ℕ) (zs : List Elem) → n < m → RisesFrom m zs → RisesFrom n zs
-    lower n m [] l up = tt
-    lower n m (z ∷ zs) l up = (omega (arith, l, up.0), up.1)
-
--- what lies before other elements isn't among them
-pub AllLack-before : (xs ys : List Elem) → IsRising (xs ++ ys) → AllLack xs ys
-AllLack-before [] ys h = tt
-AllLack-before (x ∷ xs) ys h = (Lacks-low x.at x.at ys (RisesFrom-after x.at xs ys h) (omega arith), AllLack-before xs ys (RisesFrom-rising x.at (xs ++ ys) h))
 
 -- ---- the last element
 
@@ -111,19 +89,3 @@ Stops-last n [] last low e l = absurd (omega arith)
 Stops-last n (x ∷ xs) last low e l =
     let s : length (x ∷ xs) - 1 ≡ length xs = omega arith in
     last-stops n x xs last (subst (λ m. Reads (x ∷ xs) m last) s e) l
-
--- ---- reading
-
-next-step : (i : ℕ) (xs : List Elem) (e : Elem) → slice_get xs i ≡ Some e → take i xs ++ e ∷ [] ≡ take (suc i) xs
-next-step i [] e h = cc
-next-step zero (y ∷ ys) e h = let same : y ≡ e = cc (h) in ap (λ z. z ∷ []) (sym same)
-next-step (suc i) (y ∷ ys) e h = ap (λ w. y ∷ w) (next-step i ys e h)
-
--- the first elements of a run, and one more
-pub take-next : (xs run : List Elem) (i : ℕ) (e : Elem) → run ≡ take i xs → slice_get xs i ≡ Some e → run ++ e ∷ [] ≡ take (i + 1) xs
-take-next xs run i e h g =
-    let s : suc i ≡ i + 1 = omega arith in
-    ap (λ w. w ++ e ∷ []) h ∙ next-step i xs e g ∙ ap (λ m. take m xs) s
-
--- where a run is read with x at its place
-pub ruleset run_laws = (place_in-low, put_in-place)

@@ -11,10 +11,11 @@ use Rattle.node_arena.specs.Arenas.{ArenaState, NodeState, node_at}
 use Rattle.node_arena.specs.Conforming.{Conform, Hang, IsLevel, IsRising, spine, whole, least_of}
 use Rattle.node_arena.specs.Insertions.{put_in, all_put_in, Lacks}
 use Rattle.node_arena.specs.Kinds.{kind_at, shape_at}
-use Rattle.node_arena.specs.Passing.{discipline, chains, link_at, CanPutIn, IsPassed, GoesOn, AllLack}
+use Rattle.node_arena.specs.Passing.{discipline, chains, link_at, link_total, CanPutIn, IsDone, IsPassed, GoesOn, AllLack, deeper}
 use Rattle.node_arena.specs.Rules.{AreSound, HasSoundLinks, MayFollow}
 use Rattle.node_arena.specs.Trees.{Trees, done, node, roots, stored, Stands, IsReachedOnce}
 use Rattle.node_arena.specs.Walks.{walk}
+use Rattle.node_arena.proofs.DepthsLemmas.{deeper-first}
 use Rattle.node_arena.proofs.PutInLemmas.{IsRising-suffix}
 use Rattle.block_list.proofs.Ends.{Link, some-node, linked}
 use Rattle.block_list.proofs.Parts.{IsChain-discipline, root_of, hang-links, spine-post}
@@ -89,12 +90,13 @@ module _ (s : List NodeKind) (a : ArenaState) (x : Elem) (i k : ℕ) (run : List
       → Stands b ls → 1 ≤ length cut → length cut ≤ (kind_at s k).hi → cut ++ all_put_in xs (walk s ls) ≡ put_in x (run ++ walk s ls)
       → xs ≢ [] → IsRising (cut ++ xs) → AllLack xs (walk s ls) → length xs ≤ length run
       → GoesOn s a b x i (stored k cut ls) o.post xs n m → b.nodes.spare ≡ a.nodes.spare
-      → IsPassed s a b x (node i k run ls done) i side.Post xs n m
+      → IsPassed s a b x (node i k run ls done) i side.Post xs (Some 0) n m
   passed b cut xs n m other at same st low high put some beside lack few on spare = record {
     passer = stored k cut ls;
     there = at;
     link = record { place = 0; kind = o.post };
     has_link = ap (λ sh. link_at sh side.Post) o.link.shape;
+    width = ap length behind-root.1 ∙ ap link_total (sym o.link.shape);
     other = λ e. other (e ∙ ap discipline o.link.shape);
     below = ls;
     leads = link-same behind-root.0 (roots ls) behind-root.1;
@@ -111,6 +113,7 @@ module _ (s : List NodeKind) (a : ArenaState) (x : Elem) (i k : ℕ) (run : List
         omega arith;
     goes_on = on;
     spare = spare;
-    lift = λ c d v top w root e. linked s x i k o.post run ls a b c d cut xs behind-root.0 top v o.link behind-root.1 low high put
-        (some-node b i (stored k cut ls) at) same w root e;
+    lift = λ c d v top w root e deep h. subst (IsDone s a d x (node i k run ls done)) (sym (deeper-first deep))
+        (linked s x i k o.post run ls a b c d cut xs behind-root.0 top v o.link behind-root.1 low high put (some-node b i (stored k cut ls) at) same w root e
+        deep h);
   }

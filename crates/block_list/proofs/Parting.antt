@@ -3,9 +3,10 @@ use Rattle.std.proofs.Common.{◌≡◌, ◌≢◌, ◌≤◌, ◌<◌, ◌+◌,
 use Rattle.std.proofs.lemmas.List.{length-take-le}
 use Rattle.std.specs.List.{insert}
 use Rattle.arrayvec.specs.ArrayVec.{ArrayVec}
-use Rattle.std.specs.Prelude.{slice_index_or, ⊤}
+use Rattle.std.specs.Prelude.{slice_index_or, is_some, ⊤}
 use Rattle.node_arena.specs.declared.elements.Elem.{Elem}
 use Rattle.node_arena.specs.declared.elements.Side.TheVariants as side
+use Rattle.node_arena.specs.declared.elements.Step.{Step}
 use Rattle.node_arena.specs.declared.elements.Step.TheVariants.{Done, Pass}
 use Rattle.node_arena.specs.declared.kinds.NodeKind.{NodeKind}
 use Rattle.node_arena.specs.declared.kinds.Shape.{Shape}
@@ -14,18 +15,18 @@ use Rattle.node_arena.specs.Arenas.{ArenaState, NodeState, node_at, place_in, Ch
 use Rattle.node_arena.specs.Conforming.{IsLevel, IsRising}
 use Rattle.node_arena.specs.Insertions.{put_in, DifferInFew}
 use Rattle.node_arena.specs.Kinds.{kind_at, shape_at}
-use Rattle.node_arena.specs.Passing.{discipline, chains, weaves, IsDone, IsPassed, Leaves}
+use Rattle.node_arena.specs.Passing.{discipline, chains, weaves, IsDone, IsPassed, Leaves, IsTold, wedge_depth}
 use Rattle.node_arena.specs.Rules.{AreSound, Serves, HasSoundLinks, MayFollow, post_of}
 use Rattle.node_arena.specs.Trees.{Trees, done, node, roots, stored}
 use Rattle.node_arena.specs.Walks.{walk}
-use Rattle.node_arena.proofs.ChangesLemmas.{DifferInFew-one, DifferInFew-then, DifferInFew-wider}
+use Rattle.node_arena.proofs.ChangesLemmas.{node_differs, DifferInFew-one, DifferInFew-then, DifferInFew-wider}
 use Rattle.node_arena.proofs.FramesLemmas.{Stands-changed}
-use Rattle.node_arena.proofs.PutInLemmas.{append-Lacks, IsRising-suffix, IsRising-prefix, IsRising-put_in, length-put_in, all_put_in-first, put_in-place}
+use Rattle.node_arena.proofs.PutInLemmas.{AllLack-before, append-Lacks, IsRising-suffix, IsRising-prefix, IsRising-put_in, length-put_in, all_put_in-first, place_in-low, put_in-place}
 use Rattle.block_list.specs.Chains.{AllBelow, link_of, links_behind, HasChainBehind, Turns, Comes, Finds}
 use Rattle.block_list.specs.declared.chains.Turn.TheVariants as turns
 use Rattle.block_list.specs.declared.chains.Way.TheVariants.{Behind}
 use Rattle.block_list.proofs.Ends.{some-node, fitted, behind-node, wedged}
-use Rattle.block_list.proofs.Lists.{place_in-low, put_in-past, put_in-within, IsRising-end, AllLack-before}
+use Rattle.block_list.proofs.Lists.{put_in-past, put_in-within, IsRising-end}
 use Rattle.block_list.proofs.Opening.{Opened, behind-root, is-stored, passed}
 use Rattle.block_list.proofs.Searching.{of-node, has-node, next-none, open-here}
 
@@ -77,6 +78,25 @@ pub behind-passes : (s : List NodeKind) (at : ℕ) (o : Option NodeState) → Is
     → IfSome o (λ n. (AllBelow at n.run × (link_of n ≢ None)) ⊎ ((kind_at s n.kind).hi ≤ length n.run))
 behind-passes s at None h = tt
 behind-passes s at (Some n) h = inl (h.0, h.1)
+
+-- where a depth isn't told, the new node has pushed something down
+pub parts-told : (a c b : ArenaState) (i j : ℕ) (shape : Shape) (link : Option ℕ) (step : Step) (kind : ℕ) (upper : List Elem) (old : Option NodeState)
+    → step ≡ Done (wedge_depth shape (is_some link) 0) → node_at a j ≡ None → IsSome (node_at a i)
+    → ChangesNode a c j (Some (record { kind = kind; run = upper; links = links_behind shape link })) → ChangesNode c b i old → IsTold a b step
+parts-told a c b i j shape link step kind upper old e free some e1 e2 = subst (IsTold a b) (sym e) (told shape link e1)
+  where
+    told : (sh : Shape) (l : Option ℕ) → ChangesNode a c j (Some (record { kind = kind; run = upper; links = links_behind sh l }))
+        → IsTold a b (Done (wedge_depth sh (is_some l) 0))
+    told Flat l e1 = tt
+    told (Post p) l e1 = tt
+    told (Ends p q) None e1 = tt
+    told (Ends p q) (Some m) e1 = (
+      j,
+      m,
+      free,
+      subst (λ o. IsSomeAnd o (λ n. n.links ≡ None ∷ Some m ∷ [])) (sym (e2.node.others j (node_differs a i j some free) ∙ e1.node.changed)) refl,
+    )
+    told Woven l e1 = tt
 
 -- one node that is there has changed
 pub few-one : (a b : ArenaState) (i : ℕ) (o : Option NodeState) (F : NodeState → Option NodeState) → IsSome o → IfSome o (λ n. ChangesNode a b i (F n))
@@ -188,7 +208,7 @@ module _ (s : List NodeKind) (a : ArenaState) (x : Elem) (sound : AreSound s) wh
     pub put-done : (b : ArenaState) (place kind hi len n m : ℕ) → IsSomeAnd (node_at a i) (λ n. Turns s x.at n turns.Into)
         → IfSome (node_at a i) (λ n. place ≡ place_in x.at n.run) → IfSome (node_at a i) (λ n. kind ≡ n.kind) → hi ≡ (kind_at s kind).hi
         → IfSome (node_at a i) (λ n. len ≡ length n.run) → len < hi
-        → IfSome (node_at a i) (λ n. ChangesNode a b i (Some (record n { run = insert n.run place x; links = n.links }))) → Leaves s a b x t Done n m
+        → IfSome (node_at a i) (λ n. ChangesNode a b i (Some (record n { run = insert n.run place x; links = n.links }))) → Leaves s a b x t (Done (Some 0)) n m
     put-done b place kind hi len n m turn places kinds his lens room e =
         let place_is : place ≡ place_in x.at c.here.run = read (λ n. place ≡ place_in x.at n.run) places in
         let kind_is : kind ≡ c.here.kind = read (λ n. kind ≡ n.kind) kinds in
@@ -197,12 +217,12 @@ module _ (s : List NodeKind) (a : ArenaState) (x : Elem) (sound : AreSound s) wh
         let wider : List Elem = insert c.here.run place x in
         let same : wider ≡ put_in x c.here.run = ap (λ p. insert c.here.run p x) place_is ∙ sym (put_in-place x c.here.run) in
         let more : length wider ≡ length c.here.run + 1 = ap length same ∙ length-put_in x c.here.run in
-        let d : IsDone s a b x (node i c.here.kind c.here.run c.here.links done) =
+        let d : IsDone s a b x (node i c.here.kind c.here.run c.here.links done) (Some 0) =
         fitted s x i c.here.kind (open-here s a x sound i t c).post c.here.run c.here.links a b wider (open-here s a x sound i t c).link
         (subst (IsLevel s) c.here.is c.here.conforms.level)
         (omega (arith, more)) (omega (arith, more, len_is, hi_is, room)) (ap (λ v. v ++ walk s c.here.links) same ∙ sym (stays turn))
         (read (λ n. ChangesNode a b i (Some (record n { run = insert n.run place x; links = n.links }))) e) in
-        c.lift b Done n m (subst (IsDone s a b x) (sym c.here.is) d)
+        c.lift b (Done (Some 0)) n m (subst (λ u. IsDone s a b x u (Some 0)) (sym c.here.is) d)
 
     module _ (kind post : ℕ) (link : Option ℕ) (run lower upper : List Elem)
         (h : Halves s x c.here.kind o.post c.here.run c.here.links kind post link lower upper)
@@ -224,13 +244,13 @@ module _ (s : List NodeKind) (a : ArenaState) (x : Elem) (sound : AreSound s) wh
       -- the upper half goes on into a woven structure
       pub part-pass : (b : ArenaState) (elems : ArrayVec Elem) (n m : ℕ) → shape_at s post ≡ Woven
           → ChangesNode a b i (Some (node_of kind lower (link ∷ []))) → b.nodes.spare ≡ a.nodes.spare → m ≡ n + 1 → elems.items ≡ upper
-          → Leaves s a b x t (Pass i side.Post elems) n m
+          → Leaves s a b x t (Pass i side.Post elems (Some 0)) n m
       part-pass b elems n m woven e spare ticks same =
           let shape : shape_at s o.post ≡ Woven = ap (shape_at s) (sym h.post_kind) ∙ woven in
           let cut : ChangesNode a b i (Some (stored c.here.kind lower c.here.links)) =
           subst (λ q. ChangesNode a b i (Some q)) (cut-node kind (link ∷ []) h.kind h.link_is) e in
           let w : List Elem = walk s c.here.links in
-          let q : IsPassed s a b x (node i c.here.kind c.here.run c.here.links done) i side.Post upper n m =
+          let q : IsPassed s a b x (node i c.here.kind c.here.run c.here.links done) i side.Post upper (Some 0) n m =
           passed s a x i c.here.kind c.here.run c.here.links o b lower upper n m
           (λ f. let g : weaves ≡ chains = ap discipline (sym shape) ∙ f in cc)
           cut.node.changed
@@ -244,15 +264,16 @@ module _ (s : List NodeKind) (a : ArenaState) (x : Elem) (sound : AreSound s) wh
           h.fewer
           (inr (shape, cut, ticks))
           spare in
-          c.lift b (Pass i side.Post elems) n m
-          (subst (λ u. IsPassed s a b x u i side.Post elems.items n m) (sym c.here.is)
-          (subst (λ xs. IsPassed s a b x (node i c.here.kind c.here.run c.here.links done) i side.Post xs n m) (sym same) q))
+          c.lift b (Pass i side.Post elems (Some 0)) n m
+          (subst (λ u. IsPassed s a b x u i side.Post elems.items (Some 0) n m) (sym c.here.is)
+          (subst (λ xs. IsPassed s a b x (node i c.here.kind c.here.run c.here.links done) i side.Post xs (Some 0) n m) (sym same) q))
 
       -- the upper half is in a new node
       pub part-done : (c1 b : ArenaState) (j n m : ℕ) → (shape_at s post ≡ Woven → ⊥) → node_at a j ≡ None
           → ChangesNode a c1 j (Some (node_of post upper (links_behind (shape_at s post) link)))
-          → ChangesNode c1 b i (Some (node_of kind lower (Some j ∷ []))) → Leaves s a b x t Done n m
-      part-done c1 b j n m other free e1 e2 =
+          → ChangesNode c1 b i (Some (node_of kind lower (Some j ∷ []))) → (step : Step) → step ≡ Done (wedge_depth (shape_at s post) (is_some link) 0)
+          → Leaves s a b x t step n m
+      part-done c1 b j n m other free e1 e2 step told =
           let own = follow-own s c.here.kind o.post o.follow (λ f. other (ap (shape_at s) h.post_kind ∙ f)) in
           let new = behind-node s x i c.here.kind o.post c.here.run c.here.links j upper link (shape_at s o.post) refl own.0 (sym h.link_is)
           (lo-own s sound o.post (shape_at s o.post) refl own.0) h.some (omega (arith, h.few, own.1)) o.link.links in
@@ -260,19 +281,21 @@ module _ (s : List NodeKind) (a : ArenaState) (x : Elem) (sound : AreSound s) wh
           subst (λ q. ChangesNode a c1 j (Some (node_of q upper (links_behind (shape_at s q) link)))) h.post_kind e1 in
           let f2 : ChangesNode c1 b i (Some (node_of c.here.kind lower (Some j ∷ []))) =
           subst (λ q. ChangesNode c1 b i (Some (node_of q lower (Some j ∷ [])))) h.kind e2 in
-          c.lift b Done n m (subst (IsDone s a b x) (sym c.here.is)
-          (wedged s x i c.here.kind o.post c.here.run c.here.links a c1 b j lower upper link o.link new h.low h.high put free f1 f2))
+          let deep = wedge_depth (shape_at s o.post) (is_some link) 0 in
+          subst (λ w. Leaves s a b x t w n m) (sym (told ∙ ap (λ q. Done (wedge_depth (shape_at s q) (is_some link) 0)) h.post_kind))
+          (c.lift b (Done deep) n m (subst (λ u. IsDone s a b x u deep) (sym c.here.is)
+          (wedged s x i c.here.kind o.post c.here.run c.here.links a c1 b j lower upper link o.link new h.low h.high put free f1 f2)))
 
   -- x alone goes on behind the run
   pub alone-pass : (i : ℕ) (t : Trees) (elems : ArrayVec Elem) (n : ℕ) → Finds s a x t (Behind i) → elems.items ≡ x ∷ []
-      → Leaves s a a x t (Pass i side.Post elems) n n
+      → Leaves s a a x t (Pass i side.Post elems (Some 0)) n n
   alone-pass i t elems n f same =
       let c : Comes s a x i t = f.0 in
       let o = open-here s a x sound i t c in
       let turn : Turns s x.at (stored c.here.kind c.here.run c.here.links) turns.Behind =
       subst (λ q. IsSomeAnd q (λ n. Turns s x.at n turns.Behind)) o.link.stands.0 f.1 in
       let w : List Elem = walk s c.here.links in
-      let q : IsPassed s a a x (node i c.here.kind c.here.run c.here.links done) i side.Post (x ∷ []) n n =
+      let q : IsPassed s a a x (node i c.here.kind c.here.run c.here.links done) i side.Post (x ∷ []) (Some 0) n n =
       passed s a x i c.here.kind c.here.run c.here.links o a c.here.run (x ∷ []) n n
       (λ e. turn.2 (subst (HasChainBehind s) (sym o.link.shape) e))
       o.link.stands.0 (λ j h. refl) o.link.stands.1 o.link.low o.link.high
@@ -283,6 +306,6 @@ module _ (s : List NodeKind) (a : ArenaState) (x : Elem) (sound : AreSound s) wh
       o.link.low
       (inl (refl, refl, refl))
       refl in
-      c.lift a (Pass i side.Post elems) n n
-      (subst (λ u. IsPassed s a a x u i side.Post elems.items n n) (sym c.here.is)
-      (subst (λ xs. IsPassed s a a x (node i c.here.kind c.here.run c.here.links done) i side.Post xs n n) (sym same) q))
+      c.lift a (Pass i side.Post elems (Some 0)) n n
+      (subst (λ u. IsPassed s a a x u i side.Post elems.items (Some 0) n n) (sym c.here.is)
+      (subst (λ xs. IsPassed s a a x (node i c.here.kind c.here.run c.here.links done) i side.Post xs (Some 0) n n) (sym same) q))

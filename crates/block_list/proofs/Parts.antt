@@ -7,7 +7,8 @@ use Rattle.node_arena.specs.declared.kinds.Shape.TheVariants.{Flat, Post, Ends, 
 use Rattle.node_arena.specs.Conforming.{Hang, IsLevelAt, spine, spine_by, places, whole, least_of}
 use Rattle.node_arena.specs.Kinds.{kind_at, shape_at}
 use Rattle.node_arena.specs.Passing.{discipline, chains, chunks, weaves, runs}
-use Rattle.node_arena.specs.Trees.{Trees, done, absent, node, roots, IsApart}
+use Rattle.node_arena.specs.Trees.{Trees, done, absent, node, roots}
+use Rattle.node_arena.proofs.PlacesLemmas.{hang-none}
 
 -- ---- shapes
 
@@ -27,18 +28,6 @@ pub IsChain-discipline : (s : List NodeKind) (k : ℕ) → discipline (shape_at 
 IsChain-discipline s k d = chain_of s k (shape_at s k) refl d
 
 -- ---- rows
-
--- no links share nothing
-pub IsApart-done : (t : Trees) → IsApart t done
-IsApart-done done = tt
-IsApart-done (absent rest) = IsApart-done rest
-IsApart-done (node i k run ls rest) = (tt, IsApart-done ls, IsApart-done rest)
-
--- nothing hangs at no place
-pub hang-none : (s : List NodeKind) (u : Trees) → Hang s [] u → u ≡ done
-hang-none s done h = refl
-hang-none s (absent rest) h = absurd h
-hang-none s (node i k run ls rest) h = absurd h
 
 -- what hangs at one place has one root
 pub root_of : (s : List NodeKind) (k : ℕ) (ls : Trees) → Hang s (whole s k ∷ []) ls → (r : Option ℕ) × (roots ls ≡ r ∷ [])

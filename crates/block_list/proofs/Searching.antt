@@ -9,17 +9,18 @@ use Rattle.node_arena.specs.declared.kinds.NodeKind.{NodeKind}
 use Rattle.node_arena.specs.Arenas.{ArenaState, NodeState, node_at, coordinate_at}
 use Rattle.node_arena.specs.Conforming.{Hang, IsRising, spine, whole}
 use Rattle.node_arena.specs.Kinds.{shape_at}
-use Rattle.node_arena.specs.Passing.{discipline, chains, CanPutIn, IsDone, IsPassed, Leaves}
+use Rattle.node_arena.specs.Passing.{discipline, chains, CanPutIn, IsDone, IsPassed, Leaves, deeper}
 use Rattle.node_arena.specs.Rules.{AreSound}
 use Rattle.node_arena.specs.Trees.{Trees, done, absent, node, roots, stored, Stands}
 use Rattle.node_arena.specs.Walks.{walk}
+use Rattle.node_arena.proofs.PlacesLemmas.{hang-none}
 use Rattle.node_arena.proofs.PutInLemmas.{append-Lacks, IsRising-prefix}
 use Rattle.block_list.specs.Chains.{AllBelow, first_of, first_at, link_of, HasChainBehind, Turns, Comes}
 use Rattle.block_list.specs.declared.chains.Turn.TheVariants as turns
 use Rattle.block_list.proofs.Ends.{some-node, linked}
 use Rattle.block_list.proofs.Lists.{put_in-past, AllBelow-last, Stops-last, first-rises, first-append, first-below}
 use Rattle.block_list.proofs.Opening.{Opened, opened, behind-conforms, behind-root}
-use Rattle.block_list.proofs.Parts.{hang-none, spine-post}
+use Rattle.block_list.proofs.Parts.{spine-post}
 use Rattle.block_list.proofs.Walks.{walk-chain}
 
 -- ---- options
@@ -85,8 +86,8 @@ next-none s p (node i k run ls rest) h e = cc
 module _ (s : List NodeKind) (a : ArenaState) (x : Elem) (i k : ℕ) (run : List Elem) (ls : Trees) (o : Opened s a x i k run ls)
     (below : AllBelow x.at run) where
   -- where x is below what hangs behind, it is in the whole
-  done-next : (b : ArenaState) → IsDone s a b x ls → IsDone s a b x (node i k run ls done)
-  done-next b d =
+  done-next : (b : ArenaState) (deep : Option ℕ) → IsDone s a b x ls deep → IsDone s a b x (node i k run ls done) deep
+  done-next b deep d =
       let r = behind-root s a x i k run ls o in
       let some : IsSome (node_at a i) = some-node a i (stored k run ls) o.link.stands.0 in
       let at : node_at b i ≡ Some (stored k run ls) = d.puts.keeps i some o.link.once.0 ∙ o.link.stands.0 in
@@ -112,18 +113,20 @@ module _ (s : List NodeKind) (a : ArenaState) (x : Elem) (i k : ℕ) (run : List
         };
         runs = refl;
       })
+      deep d.deepens
 
   walk_is : walk s (node i k run ls done) ≡ run ++ walk s ls
   walk_is = walk-chain s i k o.post run ls o.link.shape
 
   -- what is passed on behind the run is passed on by the whole
-  passed-next : (b : ArenaState) (j : ℕ) (at_side : Side) (xs : List Elem) (n m : ℕ) → IsPassed s a b x ls j at_side xs n m
-      → IsPassed s a b x (node i k run ls done) j at_side xs n m
-  passed-next b j at_side xs n m q = record {
+  passed-next : (b : ArenaState) (j : ℕ) (at_side : Side) (xs : List Elem) (above : Option ℕ) (n m : ℕ) → IsPassed s a b x ls j at_side xs above n m
+      → IsPassed s a b x (node i k run ls done) j at_side xs above n m
+  passed-next b j at_side xs above n m q = record {
     passer = q.passer;
     there = q.there;
     link = q.link;
     has_link = q.has_link;
+    width = q.width;
     other = q.other;
     below = q.below;
     leads = q.leads;
@@ -144,13 +147,13 @@ module _ (s : List NodeKind) (a : ArenaState) (x : Elem) (i k : ℕ) (run : List
         omega arith;
     goes_on = q.goes_on;
     spare = q.spare;
-    lift = λ c d v top w root e. done-next d (q.lift c d v top w root e);
+    lift = λ c d v top w root e deep h. done-next d (deeper above deep) (q.lift c d v top w root e deep h);
   }
 
   -- what is left behind the run is left of the whole
   pub leaves-next : (b : ArenaState) (step : Step) (n m : ℕ) → Leaves s a b x ls step n m → Leaves s a b x (node i k run ls done) step n m
-  leaves-next b Done n m d = done-next b d
-  leaves-next b (Pass j at_side xs) n m q = passed-next b j at_side xs.items n m q
+  leaves-next b (Done deep) n m d = done-next b deep d
+  leaves-next b (Pass j at_side xs above) n m q = passed-next b j at_side xs.items above n m q
 
 -- ---- the search
 

@@ -5,16 +5,8 @@ use Rattle.node_arena.specs.declared.kinds.NodeKind.{NodeKind}
 use Rattle.node_arena.specs.declared.kinds.Shape.TheVariants.{Post, Ends}
 use Rattle.node_arena.specs.Kinds.{shape_at}
 use Rattle.node_arena.specs.Trees.{Trees, done, absent, node}
-use Rattle.node_arena.specs.Walks.{Part, item, link, parts, joined, walk, walks}
-
-joined-items : (run : List Elem) (ps : List (Part (List Elem))) → joined (map item run ++ ps) ≡ run ++ joined ps
-joined-items [] ps = refl
-joined-items (x ∷ xs) ps = ap (λ w. x ∷ w) (joined-items xs ps)
-
-joined-links : (s : List NodeKind) (t : Trees) → joined (map link (walks s t)) ≡ walk s t
-joined-links s done = refl
-joined-links s (absent rest) = joined-links s rest
-joined-links s (node i k run ls rest) = ap (λ w. joined (parts (shape_at s k) run (walks s ls)) ++ w) (joined-links s rest)
+use Rattle.node_arena.specs.Walks.{link, parts, joined, walk, walks}
+use Rattle.node_arena.proofs.WalksLemmas.{joined-items, joined-links}
 
 -- with a link behind the run: the run, and the walk of what follows
 pub walk-chain : (s : List NodeKind) (i k p : ℕ) (run : List Elem) (ls : Trees) → shape_at s k ≡ Post p → walk s (node i k run ls done) ≡ run ++ walk s ls

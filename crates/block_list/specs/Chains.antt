@@ -44,8 +44,8 @@ link_of n = slice_index_or n.links 0 None
 
 -- what goes on behind a node goes on there: where it is above the run, and what hangs behind isn't empty; or where the run was full
 abbrev pub PassesAt : List NodeKind → ArenaState → ℕ → Step → Type 0
-PassesAt s a at Done = Unit {0}
-PassesAt s a at (Pass i at_side xs) =
+PassesAt s a at (Done deep) = Unit {0}
+PassesAt s a at (Pass i at_side xs above) =
     IfSome (node_at a i) (λ n. (AllBelow at n.run × (link_of n ≢ None)) ⊎ ((kind_at s n.kind).hi ≤ length n.run))
 
 -- ---- one step along the chain

@@ -44,8 +44,8 @@ pub record Holds (s : List NodeKind) (a : ArenaState) (i n : ℕ) (marks : List 
 
 -- where the element went in, there is such a chain again; where elements are passed on, the node is there
 abbrev pub HoldsAfter : List NodeKind → ArenaState → ℕ → ℕ → List Bool → Step → Type 0
-HoldsAfter s a i n marks Done = (t : Trees) × Holds s a i n marks t
-HoldsAfter s a i n marks (Pass j side xs) = IsSome (node_at a j)
+HoldsAfter s a i n marks (Done deep) = (t : Trees) × Holds s a i n marks t
+HoldsAfter s a i n marks (Pass j side xs above) = IsSome (node_at a j)
 
 -- these links stand, and the number is one of theirs, or none
 pub record LeadsInto (a : ArenaState) (link : Option ℕ) (t : Trees) : Type 0 where
@@ -55,5 +55,5 @@ pub record LeadsInto (a : ArenaState) (link : Option ℕ) (t : Trees) : Type 0 w
 
 -- the chain at node i can be read; where elements were passed on, the node that passed them
 abbrev pub IsReadable : ArenaState → ℕ → Step → Type 0
-IsReadable a i Done = (t : Trees) × LeadsInto a (Some i) t
-IsReadable a i (Pass j side xs) = IsSome (node_at a j)
+IsReadable a i (Done deep) = (t : Trees) × LeadsInto a (Some i) t
+IsReadable a i (Pass j side xs above) = IsSome (node_at a j)

@@ -1,19 +1,20 @@
 //! The search along a chain, and what is done at its end.
-ghost use Rattle.std.specs.Prelude.{◌≡◌, ◌<◌, ◌≤◌, ◌+◌, None, Some, IsSome, IsSomeAnd, IfSome, IsTrue, IsFalse, length, ℕ};
-ghost use Rattle.node_arena.specs.Arenas.{node_at, ChangesNode};
+ghost use Rattle.std.specs.Prelude.{◌≡◌, ◌<◌, ◌≤◌, ◌+◌, ◌-◌, None, Some, IsSome, IsSomeAnd, IfSome, IsTrue, IsFalse, length, ℕ};
+ghost use Rattle.node_arena.specs.Arenas.{node_at, coordinate_at, ChangesNode};
 ghost use Rattle.node_arena.specs.Conforming.{IsRising};
 ghost use Rattle.node_arena.specs.Insertions.{DifferInFew};
 ghost use Rattle.node_arena.specs.Kinds.{kind_at, shape_at};
 ghost use Rattle.node_arena.specs.declared.kinds.Shape.TheVariants.{Post, Woven};
 ghost use Rattle.block_list.specs.declared.chains.Way.TheVariants.{Into};
-ghost use Rattle.node_arena.specs.Passing.{discipline, chains, CanPutIn, Leaves};
+ghost use Rattle.node_arena.specs.Passing.{discipline, chains, CanPutIn, Leaves, IsTold};
 ghost use Rattle.node_arena.specs.Rules.{AreSound, Serves};
 ghost use Rattle.node_arena.specs.Trees.{Trees};
 ghost use Rattle.block_list.specs.Chains.{Turns, Finds, HasChainBehind, PassesAt, links_behind};
 
-use crate::runs::{copied, last_at, run_with};
 use dt_model::Steps;
-use node_arena::{Arena, Elem, NodeId, NodeKind, Shape, Side, Step};
+use node_arena::{
+    Arena, Elem, NodeId, NodeKind, NodeView, Shape, Side, Step, copied, is_woven, kind_of, wedged,
+};
 use std::sync::ledger::Ledger;
 
 /// Where a coordinate goes at a node.
@@ -36,16 +37,6 @@ pub(crate) enum Way {
     Behind(NodeId),
 }
 
-/// The kind with this number; one without links where there is none.
-pub(crate) fn kind_of(kinds: &[NodeKind], number: u32) -> NodeKind
-    ensures value { result ≡ kind_at kinds.now number }
-{
-    match kinds.get(number as usize) {
-        Some(kind) => *kind,
-        None => NodeKind::default(),
-    }
-}
-
 /// Whether the kind behind the run of this kind has `post` alone.
 fn has_chain_behind(kinds: &[NodeKind], kind: u32) -> bool
     ensures yes { IsTrue result → HasChainBehind kinds.now (shape_at kinds.now kind) }
@@ -54,6 +45,17 @@ fn has_chain_behind(kinds: &[NodeKind], kind: u32) -> bool
     match kind_of(kinds, kind).shape {
         Shape::Post(post) => matches!(kind_of(kinds, post).shape, Shape::Post(_)),
         _ => false,
+    }
+}
+
+/// The coordinate of the last element of a node's run.
+fn last_at(node: &NodeView<'_>) -> u32
+    requires some { 0 < length node.now.run }
+    ensures value { coordinate_at node.now.run (length node.now.run - 1) ≡ Some result }
+{
+    match node.coordinate(node.len() - 1) {
+        Some(at) => at,
+        None => unreachable!(),
     }
 }
 
@@ -119,14 +121,6 @@ fn make_behind<L: Ledger>(
     }
 }
 
-/// Whether the kind with this number is woven.
-fn is_woven(kinds: &[NodeKind], kind: u32) -> bool
-    ensures yes { IsTrue result → shape_at kinds.now kind ≡ Woven }
-    ensures no { IsFalse result → shape_at kinds.now kind ≡ Woven → ⊥ }
-{
-    matches!(kind_of(kinds, kind).shape, Shape::Woven)
-}
-
 /// The number of the kind behind the run of a kind with `post` alone.
 fn post_kind(kinds: &[NodeKind], kind: u32) -> u32
     ensures value { (p : ℕ) → shape_at kinds.now kind ≡ Post p → result ≡ p }
@@ -153,6 +147,7 @@ fn part<L: Ledger>(
     requires spare { 0 < arena.old.nodes.spare }
     ensures left { (t : Trees) → Finds kinds.now arena.old elem t (Into node) → Leaves kinds.now arena.old arena.new elem t result steps.old steps.new }
     ensures passes { PassesAt kinds.now arena.old elem.at result }
+    ensures told { IsTold arena.old arena.new result }
     ensures few { DifferInFew 2 arena.old arena.new }
     ensures spare { arena.old.nodes.spare ≤ arena.new.nodes.spare + 1 }
     ensures steps { steps.new ≤ steps.old + 2 }
@@ -163,7 +158,7 @@ fn part<L: Ledger>(
     let kind = full.kind();
     let post = post_kind(kinds, kind);
     let link = full.link(0);
-    let run = run_with(&full, elem);
+    let run = full.run_with(&elem);
     let (lower, upper) = run.as_slice().split_at((run.len() + 1) / 2);
     if is_woven(kinds, post) {
         arena.put(node, kind, lower, &[link], steps);
@@ -171,11 +166,13 @@ fn part<L: Ledger>(
             node,
             side: Side::Post,
             elems: copied(upper),
+            above: Some(0),
         };
     }
+    let behind = link.is_some();
     let rest = make_behind(kinds, post, upper, link, arena, steps);
     arena.put(node, kind, lower, &[Some(rest)], steps);
-    Step::Done
+    wedged(kinds, post, behind, 0)
 }
 
 /// Puts an element into the run of a node of a chain, or parts the run.
@@ -192,6 +189,7 @@ fn put_run<L: Ledger>(
     requires spare { 0 < arena.old.nodes.spare }
     ensures left { (t : Trees) → Finds kinds.now arena.old elem t (Into node) → Leaves kinds.now arena.old arena.new elem t result steps.old steps.new }
     ensures passes { PassesAt kinds.now arena.old elem.at result }
+    ensures told { IsTold arena.old arena.new result }
     ensures few { DifferInFew 2 arena.old arena.new }
     ensures spare { arena.old.nodes.spare ≤ arena.new.nodes.spare + 1 }
     ensures steps { steps.new ≤ steps.old + 2 }
@@ -204,7 +202,7 @@ fn put_run<L: Ledger>(
     }
     let place = arena.place(node, elem.at);
     arena.insert(node, place, elem, None, steps);
-    Step::Done
+    Step::Done { deep: Some(0) }
 }
 
 /// Puts an element into the structure that begins at a node whose kind has `post` alone. `Done` is answered where it is in. `Pass` is answered
@@ -225,6 +223,7 @@ pub fn insert<L: Ledger>(
     requires spare { 0 < arena.old.nodes.spare }
     ensures left { (t : Trees) → CanPutIn kinds.now arena.old elem node t → Leaves kinds.now arena.old arena.new elem t result steps.old steps.new }
     ensures passes { PassesAt kinds.now arena.old elem.at result }
+    ensures told { IsTold arena.old arena.new result }
     ensures few { DifferInFew 2 arena.old arena.new }
     ensures spare { arena.old.nodes.spare ≤ arena.new.nodes.spare + 1 }
     ensures steps { steps.new ≤ steps.old + 2 }
@@ -237,6 +236,7 @@ pub fn insert<L: Ledger>(
             node: here,
             side: Side::Post,
             elems: copied(&[elem]),
+            above: Some(0),
         },
     }
 }

@@ -8,7 +8,6 @@
 #![tactic(auto)]
 
 mod chains;
-mod runs;
 #[cfg(test)]
 mod tests;
 

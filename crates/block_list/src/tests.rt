@@ -135,15 +135,15 @@ fn put_one<L: Ledger>(
     ensures marks { length marks.new ≡ length marks.old }
 {
     if marks[at as usize] {
-        return Step::Done;
+        return Step::Done { deep: Some(0) };
     }
     let step = insert(kinds, node, arena, elem(at), steps);
     marks[at as usize] = true;
     step
 }
 
-/// Puts the coordinates in, one after another, until something is passed on. After each 50th the chain is read and checked. None where that found
-/// something else than what went in.
+/// Puts the coordinates in, one after another, until something is passed on, and answers what the last one left. After each 50th the chain is read and
+/// checked. None where that found something else than what went in.
 fn fill<L: Ledger>(
     alloc: Global,
     kinds: &[NodeKind],
@@ -167,14 +167,14 @@ fn fill<L: Ledger>(
             return Ok(None);
         }
         let step = put_one(kinds, node, arena, at, count, marks, steps);
-        if !matches!(step, Step::Done) {
+        if count + 1 == order.len() || !matches!(step, Step::Done { .. }) {
             return Ok(Some(step));
         }
         if count % 50 == 49 && !is_whole(alloc, kinds, arena, node, marks)? {
             return Ok(None);
         }
     }
-    Ok(Some(Step::Done))
+    Ok(Some(Step::Done { deep: Some(0) }))
 }
 
 /// Whether the marked coordinates are there, in runs that fit.
@@ -265,6 +265,7 @@ fn runs_fit(rows: &[Row], hi: u32) -> bool {
 }
 
 /// What came of a filling: how many elements were passed on, and the first two of them; whether the check found what went in; and what is there.
+/// Where none was passed on, the depth that the last insertion told stands in the place of the first two.
 type Outcome = (usize, Option<u32>, Option<u32>, bool, Vec<Row>);
 
 /// Makes a chain of the first coordinate, puts the others in, and reads the chain; where elements are passed on, the run of the node that passes them.
@@ -302,13 +303,33 @@ fn outcome(alloc: Global, arena: &Arena, begin: NodeId, step: Step) -> Result<Ou
     requires readable { IsReadable arena.now begin step }
 {
     match step {
-        Step::Done => Ok((0, None, None, true, read_chain(alloc, arena, begin)?)),
-        Step::Pass { node, side, elems } => {
+        Step::Done { deep } => Ok((
+            0,
+            depth_of(deep),
+            None,
+            true,
+            read_chain(alloc, arena, begin)?,
+        )),
+        Step::Pass {
+            node,
+            side,
+            elems,
+            above,
+        } => {
             let mut rows = Vec::new(alloc);
             read_run(arena, node, 0, &mut rows)?;
             let (first, second) = (at_place(elems.as_slice(), 0), at_place(elems.as_slice(), 1));
-            Ok((elems.len(), first, second, side == Side::Post, rows))
+            let is_behind = side == Side::Post && depth_of(above) == Some(0);
+            Ok((elems.len(), first, second, is_behind, rows))
         }
+    }
+}
+
+/// A depth, where it was told.
+fn depth_of(depth: Option<u8>) -> Option<u32> {
+    match depth {
+        None => None,
+        Some(depth) => Some(u32::from(depth)),
     }
 }
 
@@ -335,9 +356,14 @@ fn has_rows(found: &Outcome, rows: &[Row]) -> bool {
     found.4.as_slice() == rows
 }
 
-/// Whether the shape is the wanted one, and nothing was passed on.
+/// Whether the shape is the wanted one, nothing was passed on, and the last insertion told this depth.
+fn has_shape(found: &Outcome, depth: Option<u32>, rows: &[Row]) -> bool {
+    found.0 == 0 && found.1 == depth && found.3 && has_rows(found, rows)
+}
+
+/// The same, where the spine stayed as it was.
 fn is_shape(found: &Outcome, rows: &[Row]) -> bool {
-    found.0 == 0 && found.3 && has_rows(found, rows)
+    has_shape(found, Some(0), rows)
 }
 
 #[test]
@@ -418,9 +444,9 @@ fn chunks_outcome(alloc: Global, first: u32, order: &[u32]) -> Result<Outcome, N
 #[test]
 fn a_new_node_with_two_links_has_the_old_one_behind(rt: HostRuntime) -> Result<(), Fail> {
     let one = chunks_outcome(rt.alloc(), 1, &[2, 3])?;
-    assert!(rt; is_shape(&one, &[(0, 0, 1), (0, 0, 2), (1, 1, 3)]));
+    assert!(rt; has_shape(&one, Some(1), &[(0, 0, 1), (0, 0, 2), (1, 1, 3)]));
     let two = chunks_outcome(rt.alloc(), 1, &[2, 3, 0])?;
-    assert!(rt; is_shape(&two, &[(0, 0, 0), (0, 0, 1), (1, 1, 2), (2, 1, 3)]));
+    assert!(rt; has_shape(&two, None, &[(0, 0, 0), (0, 0, 1), (1, 1, 2), (2, 1, 3)]));
     let above = chunks_outcome(rt.alloc(), 1, &[2, 3, 4])?;
     assert_eq!(rt;
         (above.0, above.1, above.2, above.3),

@@ -6,9 +6,14 @@ use Rattle.node_arena.specs.declared.kinds.Shape.TheVariants.{Woven}
 use Rattle.node_arena.specs.Trees.{Trees, done, absent, node, roots}
 use Rattle.node_arena.specs.Kinds.{kind_at, shape_at}
 use Rattle.node_arena.specs.Walks.{walk}
-use Rattle.node_arena.specs.Structures.{Tree, empty, rooted, flat, links_of, top_of, ConformTree}
 use Rattle.node_arena.specs.Conforming.{Place, Hang, IsLevel, IsLevelAt, AllHigh, places, woven_places, children, whole, least_of, height, spine, spine_by, IsRising, Conform}
-use Rattle.btree_nodes.specs.Weaving.{IsRow, IsFan, IsWovenKind, root_in}
+use Rattle.btree_nodes.specs.Weaving.{IsRow, IsFan, IsWovenKind}
+
+-- no links
+pub no-roots : (t : Trees) → roots t ≡ [] → t ≡ done
+no-roots done e = refl
+no-roots (absent t) e = cc
+no-roots (node i k run ls t) e = cc
 
 -- all places are for this kind, with this least number of elements
 abbrev pub AllPlaces : ℕ → ℕ → List Place → Type 0
@@ -139,29 +144,31 @@ module _ (s : List NodeKind) (k : ℕ) (kind : IsWovenKind s k) where
         λ n. omega arith,
       )
 
-  -- the root of a structure that conforms
-  pub record Rooted (i : ℕ) (t : Tree) : Type 0 where
+  -- the root of a tree that conforms
+  pub record Rooted (i : ℕ) (t : Trees) : Type 0 where
     pub run : List Elem
     pub links : Trees
-    pub is : t ≡ rooted i k run links
-    pub conform : Conform s k (links_of t)
-    pub row : IsRow s k 1 (height s (links_of t)) (links_of t)
+    pub is : t ≡ node i k run links done
+    pub row : IsRow s k 1 (height s t) t
 
-  pub rooted-of : (i : ℕ) (t : Tree) → root_in (top_of t) ≡ Some i → ConformTree s k t → Rooted i t
-  rooted-of i empty e c = cc
-  rooted-of i (flat j run) e c = cc
-  rooted-of i (rooted j m run ls) e c =
+  pub rooted-of : (i : ℕ) (t : Trees) → roots t ≡ Some i ∷ [] → Conform s k t → Rooted i t
+  rooted-of i done e c = cc
+  rooted-of i (absent t) e c = cc
+  rooted-of i (node j m run ls t) e c =
       let number : j ≡ i = cc (e) in
-      let g = c.1.hangs in
+      let none : t ≡ done = no-roots t (ap (λ (q : List (Option ℕ)). drop 1 q) e) in
+      let alone : Conform s k (node j m run ls done) = subst (λ u. Conform s k (node j m run ls u)) none c in
+      let g = alone.hangs in
       let same : m ≡ k = g.0 in
       let must : Place = record { kind = k; least = 1; must = true } in
       let low : 1 ≤ length run = subst (λ n. n ≤ length run) whole-least g.1 in
+      let row : IsRow s k 1 (1 + height s ls) (node j m run ls done) =
+      row-of 1 (1 + height s ls) (must ∷ []) (node j m run ls done) (refl, refl, tt) (refl, tt) (g.0, low, g.2, g.3, refl) alone.level (refl, tt) in
       record {
         run = run;
         links = ls;
-        is = ap (λ n. rooted n m run ls) number ∙ ap (λ q. rooted i q run ls) same;
-        conform = c.1;
-        row = row-of 1 (1 + height s ls) (must ∷ []) (node j m run ls done) (refl, refl, tt) (refl, tt) (g.0, low, g.2, g.3, refl) c.1.level (refl, tt);
+        is = ap (λ n. node n m run ls t) number ∙ ap (λ q. node i q run ls t) same ∙ ap (node i k run ls) none;
+        row = subst (λ u. IsRow s k 1 (1 + height s ls) (node j m run ls u)) (sym none) row;
       }
 
 -- a row of one tree
@@ -169,11 +176,6 @@ pub record OneTree (k i : ℕ) (t : Trees) : Type 0 where
   pub run : List Elem
   pub links : Trees
   pub is : t ≡ node i k run links done
-
-no-roots : (t : Trees) → roots t ≡ [] → t ≡ done
-no-roots done e = refl
-no-roots (absent t) e = cc
-no-roots (node i k run ls t) e = cc
 
 -- a row with one root is one tree
 pub one_tree : (s : List NodeKind) (k low h i : ℕ) (t : Trees) → IsRow s k low h t → roots t ≡ Some i ∷ [] → OneTree k i t

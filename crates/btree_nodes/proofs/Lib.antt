@@ -5,6 +5,8 @@ pub mod SplitLemmas
 pub mod ChildLemmas
 pub mod DescentLemmas
 pub mod ConformLemmas
+pub mod LinkLemmas
+pub mod SpineLemmas
 pub mod TopLemmas
 pub mod WiderLemmas
 pub mod TrialLemmas

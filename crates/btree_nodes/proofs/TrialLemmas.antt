@@ -1,5 +1,5 @@
 -- What the tests keep, for them alone.
-use Rattle.std.proofs.Common.{◌≡◌, ◌≢◌, ◌≤◌, ◌<◌, ◌+◌, ◌-◌, ◌*◌, ℕ, zero, suc, Bool, true, false, List, [], ◌∷◌, ◌++◌, length, take, get_or, Some, None, IsSome, IfSome, refl, ◌∙◌, sym, subst, arith}
+use Rattle.std.proofs.Common.{◌≡◌, ◌≢◌, ◌≤◌, ◌<◌, ◌+◌, ◌-◌, ◌*◌, ℕ, zero, suc, Bool, true, false, List, [], ◌∷◌, ◌++◌, length, take, get_or, Some, None, IsSome, IfSome, refl, ap, ◌∙◌, sym, subst, arith}
 use Rattle.std.proofs.lemmas.List.{take-append-le, take_all}
 use Rattle.std.specs.List.{slice_set}
 use Rattle.node_arena.specs.declared.elements.Elem.{Elem}
@@ -13,8 +13,10 @@ use Rattle.node_arena.specs.Rules.{AreSound, Serves, HasSoundLinks}
 use Rattle.node_arena.specs.Structures.{Tree, empty, rooted, flat, links_of, top_of, walk_of}
 use Rattle.node_arena.specs.Trees.{Trees, done, absent, node, roots, Stands}
 use Rattle.node_arena.specs.Insertions.{Lacks, IsPutIn}
-use Rattle.node_arena.proofs.PutInLemmas.{Lacks-put_in}
+use Rattle.node_arena.specs.Walks.{walk}
+use Rattle.node_arena.proofs.PutInLemmas.{Lacks-put_in, length-put_in}
 use Rattle.btree_nodes.specs.Weaving.{root_in}
+use Rattle.btree_nodes.specs.Links.{PutsUnder}
 use Rattle.btree_nodes.specs.Trials.{IsGrown, IsRooted}
 
 -- ---- nodes that are reached
@@ -55,6 +57,23 @@ pub top-rooted : (s : List NodeKind) (a : ArenaState) (st : Structure) (free : L
     → IfSome (root_in st.top) (IsRooted a) × IfSome (root_in st.top) (λ i. IsSome (node_at a i))
 top-rooted s a st free more g =
     subst (λ q. IfSome (root_in q) (IsRooted a) × IfSome (root_in q) (λ i. IsSome (node_at a i))) (sym g.stands.top) (top-of s a g.tree g.stands.nodes)
+
+-- the root at a link stands
+pub under-rooted : (s : List NodeKind) (k : ℕ) (a b : ArenaState) (x : Elem) (t : Trees) (i : ℕ) → PutsUnder s k a b x t i
+    → IsRooted b i × IsSome (node_at b i)
+under-rooted s k a b x t i p = root-of p.tree p.leads p.puts.stands
+  where
+    root-of : (u : Trees) → roots u ≡ Some i ∷ [] → Stands b u → IsRooted b i × IsSome (node_at b i)
+    root-of done e h = cc
+    root-of (absent u) e h = cc
+    root-of (node j m run ls u) e h =
+        let same : j ≡ i = cc (e) in
+        (record { trees = node j m run ls u; roots_are = e; stands = h }, subst (λ n. IsSome (node_at b n)) same (subst IsSome (sym h.0) refl))
+
+-- one element more is walked there
+pub walk-next : (s : List NodeKind) (k : ℕ) (a b : ArenaState) (x : Elem) (t : Trees) (i : ℕ) (p : PutsUnder s k a b x t i)
+    → length (walk s p.tree) ≡ length (walk s t) + 1
+walk-next s k a b x t i p = ap length p.puts.walk_is ∙ length-put_in x (walk s t)
 
 -- ---- the one kind
 

@@ -7,6 +7,7 @@ ghost use Rattle.node_arena.specs.Rules.{AreSound};
 ghost use Rattle.btree_nodes.specs.Weaving.{root_in};
 ghost use Rattle.btree_nodes.specs.Trials.{IsGrown, IsRooted};
 
+use crate::links::insert_below;
 use crate::trees::{insert, root_of};
 use dt_model::{NoMemory, Steps};
 use node_arena::{Arena, Elem, Held, NodeId, NodeKind, Shape, Structure, Top};
@@ -248,6 +249,35 @@ fn a_full_node_sends_its_middle_element_up(rt: HostRuntime) -> Result<(), Fail> 
     let root = tree(rt.alloc(), 1, 2, &[1, 2], 1)?;
     assert!(rt; is_written(root, &[OPEN, 1, 2, CLOSE]));
     let three = tree(rt.alloc(), 1, 2, &[1, 2, 3], 1)?;
+    let wanted = [OPEN, OPEN, 1, CLOSE, 2, OPEN, 3, CLOSE, CLOSE];
+    assert!(rt; is_written(three, &wanted));
+    Ok(())
+}
+
+/// The tree below a link that was empty, after three insertions there, the last of which splits the root. None where another one moves it.
+fn hung<L: Ledger>(alloc: Global, blank: Blank) -> Result<Option<Vec<u32>>, NoMemory>
+    requires name { blank.name ≡ L.name }
+    requires parts { blank.parts ≡ L.parts }
+    requires one { blank.parts ≡ 1 }
+{
+    let kinds = woven(1, 2);
+    let mut steps = Steps::<L>::open(blank);
+    let mut arena = Arena::new(alloc, 2);
+    arena.reserve(12)?;
+    let first = insert_below(&kinds, 0, None, &mut arena, elem(3), &mut steps);
+    let second = insert_below(&kinds, 0, Some(first), &mut arena, elem(1), &mut steps);
+    let third = insert_below(&kinds, 0, Some(second), &mut arena, elem(2), &mut steps);
+    let mut out = Vec::new(alloc);
+    let height = write(&arena, third, &kinds[0], 1, 32, &mut out)?;
+    if height.is_none() || second != first || third == first {
+        return Ok(None);
+    }
+    Ok(Some(out))
+}
+
+#[test]
+fn a_link_leads_to_a_new_root_once_the_old_one_is_split(rt: HostRuntime) -> Result<(), Fail> {
+    let three = hung::<Brand>(rt.alloc(), Blank::new(1))?;
     let wanted = [OPEN, OPEN, 1, CLOSE, 2, OPEN, 3, CLOSE, CLOSE];
     assert!(rt; is_written(three, &wanted));
     Ok(())

@@ -8,13 +8,10 @@ ghost use Rattle.node_arena.specs.Insertions.{Lacks, IsPutIn};
 ghost use Rattle.btree_nodes.specs.Weaving.{root_in, with_root};
 ghost use Rattle.btree_nodes.specs.Writes.{WritesFew};
 
-use crate::descent::descend;
+use crate::links::insert_below;
 use dt_model::Steps;
 use node_arena::{Arena, Elem, NodeId, NodeKind, Structure, Top};
 use std::sync::ledger::Ledger;
-
-/// The greatest number of levels: a structure has fewer than 2^32 elements.
-const MOST_LEVELS: u32 = 32;
 
 /// The number of the root, if there is one.
 pub(crate) fn root_of(top: &Top) -> Option<NodeId>
@@ -39,7 +36,7 @@ fn with_root(root: NodeId, old: &Structure) -> Structure
 }
 
 /// Puts an element into a structure of the woven kind with this number. It takes no memory. Of the spare nodes it takes one for each node
-/// that is split, and one for a new root.
+/// that is split, and one for a new root. At most 2h + 1 ticks, h being the old height.
 pub fn insert<L: Ledger>(
     kinds: &[NodeKind],
     kind: u32,
@@ -62,14 +59,6 @@ pub fn insert<L: Ledger>(
     ensures len { result.len ≡ top.len + 1 }
     ensures spine { result.spine ≡ top.spine }
 {
-    match root_of(&top.top) {
-        None => with_root(arena.make(kind, &[elem], &[], steps), &top),
-        Some(node) => match descend(kinds, kind, arena, node, elem, MOST_LEVELS, steps) {
-            None => with_root(node, &top),
-            Some((up, right)) => {
-                let root = arena.make(kind, &[up], &[Some(node), Some(right)], steps);
-                with_root(root, &top)
-            }
-        },
-    }
+    let root = insert_below(kinds, kind, root_of(&top.top), arena, elem, steps);
+    with_root(root, &top)
 }

@@ -1,5 +1,5 @@
 -- What a call that builds a structure does to an arena.
-use Rattle.std.specs.Prelude.{◌≡◌, ◌≤◌, ◌+◌, ◌*◌, ◌^◌, ℕ, List, length}
+use Rattle.std.specs.Prelude.{◌≡◌, ◌≤◌, ◌<◌, ◌+◌, ◌*◌, ◌^◌, ℕ, List, length}
 use Rattle.node_arena.specs.declared.elements.Elem.{Elem}
 use Rattle.node_arena.specs.declared.elements.Structure.{Structure}
 use Rattle.node_arena.specs.declared.kinds.NodeKind.{NodeKind}
@@ -27,3 +27,13 @@ pub record IsBuilt (s : List NodeKind) (k : ℕ) (a b : ArenaState) (es : List E
 pub record IsAsBefore (a b : ArenaState) : Type 0 where
   pub nodes : (i : ℕ) → node_at b i ≡ node_at a i
   pub runs : (i : ℕ) → run_at b i ≡ run_at a i
+
+-- at most m nodes and n runs fewer are spare than before, and spare runs have at least the room that they had
+pub record Spends (a b : ArenaState) (m n : ℕ) : Type 0 where
+  pub nodes : a.nodes.spare ≤ b.nodes.spare + m
+  pub runs : a.runs.spare ≤ b.runs.spare + n
+  pub room : a.runs.room ≤ b.runs.room
+
+-- its memory is for no more nodes and no more runs than there are numbers of 32 bits for them
+abbrev pub CanBeNumbered : ArenaState → Type 0
+CanBeNumbered a = (a.nodes.places < 4294967296) × (a.runs.places < 4294967296)

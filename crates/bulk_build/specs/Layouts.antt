@@ -59,6 +59,22 @@ fill_by k kind Woven = kind.hi / 2
 abbrev pub fill_of : List NodeKind → ℕ → ℕ
 fill_of s k = fill_by k (kind_at s k) (shape_at s k)
 
+-- a first node has so many elements, and each one behind it so many
+abbrev pub headed : ℕ → ℕ → ℕ → ℕ
+headed first each zero = 0
+headed first each (suc more) = first + more * each
+
+-- for at least so many elements that many nodes suffice
+abbrev pub capacity_by : List NodeKind → ℕ → Shape → ℕ → ℕ
+capacity_by s k Flat nodes = nodes
+capacity_by s k (Post p) nodes = if nat_eq p k then nodes * (kind_at s k).hi else headed (kind_at s k).hi (fill_of s p) nodes
+capacity_by s k (Ends p q) nodes = nodes * fill_by k (kind_at s k) (Ends p q)
+capacity_by s k Woven nodes = nodes * ((kind_at s k).hi / 2)
+
+-- the same of a kind by its number
+abbrev pub capacity : List NodeKind → ℕ → ℕ → ℕ
+capacity s k nodes = capacity_by s k (shape_at s k) nodes
+
 -- ---- woven nodes
 
 -- there are so many levels below the root, and the room for gaps is the least that suffices

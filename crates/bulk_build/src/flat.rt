@@ -1,10 +1,10 @@
 //! Flat runs.
-ghost use Rattle.std.specs.Prelude.{◌≡◌, ◌≢◌, ◌<◌, ◌≤◌, ◌+◌, [], ℕ, Some, IfOk, OnErr, IfSome, IsSomeAnd, length};
+ghost use Rattle.std.specs.Prelude.{◌≡◌, ◌≢◌, ◌<◌, ◌≤◌, ◌+◌, [], ℕ, Some, IfOk, OnOk, OnErr, IfSome, IsSomeAnd, length};
 ghost use Rattle.node_arena.specs.Arenas.{run_at};
 ghost use Rattle.node_arena.specs.Conforming.{IsRising};
 ghost use Rattle.node_arena.specs.declared.kinds.Shape.TheVariants.{Flat};
 ghost use Rattle.node_arena.specs.Kinds.{shape_at};
-ghost use Rattle.bulk_build.specs.Building.{IsBuilt, IsAsBefore};
+ghost use Rattle.bulk_build.specs.Building.{IsBuilt, IsAsBefore, Spends, CanBeNumbered};
 
 use dt_model::NoMemory;
 use node_arena::{Arena, Elem, NodeKind, RunId, Structure, Top};
@@ -21,6 +21,8 @@ pub(crate) fn flat(
     requires few { length elems.now < 4294967296 }
     ensures ok { IfOk result (λ st. IsBuilt kinds.now root arena.old arena.new elems.now st) }
     ensures err { OnErr result (IsAsBefore arena.old arena.new) }
+    ensures spent { OnOk result (Spends arena.old arena.new (length elems.now) 1) }
+    ensures left { OnErr result (CanBeNumbered arena.new → Spends arena.old arena.new 0 1) }
     ensures most { arena.new.nodes.most ≡ arena.old.nodes.most }
 {
     if elems.is_empty() {
@@ -47,6 +49,8 @@ fn run_with_room(arena: &mut Arena, len: u32) -> Result<RunId, NoMemory>
     ensures others { IfOk result (λ id. (other : ℕ) → other ≢ id → run_at arena.new other ≡ run_at arena.old other) }
     ensures nodes { arena.new.nodes ≡ arena.old.nodes }
     ensures err { OnErr result ((other : ℕ) → run_at arena.new other ≡ run_at arena.old other) }
+    ensures spent { OnOk result ((arena.old.runs.spare ≤ arena.new.runs.spare + 1) × (arena.old.runs.room ≤ arena.new.runs.room)) }
+    ensures left { OnErr result (CanBeNumbered arena.new → (arena.old.runs.spare ≤ arena.new.runs.spare + 1) × (arena.old.runs.room ≤ arena.new.runs.room)) }
 {
     arena.reserve_runs(1, 0)?;
     let id = arena.make_run();
@@ -63,6 +67,8 @@ fn fill(arena: &mut Arena, id: RunId, elems: &[Elem])
     ensures run { IsSomeAnd (run_at arena.new id) (λ r. r.elems ≡ elems.now) }
     ensures others { (other : ℕ) → other ≢ id → run_at arena.new other ≡ run_at arena.old other }
     ensures nodes { arena.new.nodes ≡ arena.old.nodes }
+    ensures spare { arena.new.runs.spare ≡ arena.old.runs.spare }
+    ensures room { arena.new.runs.room ≡ arena.old.runs.room }
 {
     for (place, elem) in elems.iter().enumerate() {
         arena.run_insert(id, place, *elem);

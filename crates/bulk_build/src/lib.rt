@@ -6,11 +6,9 @@
 //! Not here: insertion into a structure that is there, and the shape beyond what a schema and the bound of the spine ask for.
 #![tactic(auto)]
 
-mod digits;
 mod flat;
 mod levels;
 mod linked;
-mod lookup;
 #[cfg(test)]
 mod reading;
 mod structures;

@@ -3,15 +3,13 @@ ghost use Rattle.std.specs.Prelude.{◌≡◌, ◌≢◌, ◌<◌, ◌≤◌, �
 ghost use Rattle.node_arena.specs.Conforming.{IsRising, whole};
 ghost use Rattle.node_arena.specs.Kinds.{kind_at, shape_at};
 ghost use Rattle.node_arena.specs.Rules.{AreSound, Serves};
-ghost use Rattle.bulk_build.specs.Building.{IsBuilt, IsAsBefore};
-ghost use Rattle.bulk_build.specs.Layouts.{Builds, fill_of, IsTop};
+ghost use Rattle.bulk_build.specs.Building.{IsBuilt, IsAsBefore, Spends, CanBeNumbered};
+ghost use Rattle.bulk_build.specs.Layouts.{Builds, capacity, fill_of, IsTop};
 
-use crate::digits::digits;
 use crate::levels::parts_for;
-use crate::lookup::kind_of;
 use crate::woven::woven;
 use dt_model::{NoMemory, Steps};
-use node_arena::{Arena, Elem, NodeId, NodeKind, Shape, Structure, Top};
+use node_arena::{Arena, Elem, NodeId, NodeKind, Shape, Structure, Top, digits, kind_of};
 use std::sync::ledger::Ledger;
 
 /// A new structure of nodes. All are reserved before the first one is made.
@@ -30,6 +28,8 @@ pub(crate) fn linked<L: Ledger>(
     requires few { length elems.now < 4294967296 }
     ensures ok { IfOk result (λ st. IsBuilt kinds.now root arena.old arena.new elems.now st) }
     ensures err { OnErr result (IsAsBefore arena.old arena.new) }
+    ensures spent { OnOk result (Spends arena.old arena.new (length elems.now) 1) }
+    ensures left { OnErr result (CanBeNumbered arena.new → Spends arena.old arena.new 0 1) }
     ensures most { arena.new.nodes.most ≡ arena.old.nodes.most }
     ensures steps { steps.new ≤ steps.old + length elems.now }
 {
@@ -76,9 +76,28 @@ fn fill(kinds: &[NodeKind], kind: u32) -> u32
 fn nodes_for(kinds: &[NodeKind], kind: u32, len: u32) -> u32
     requires declared { kind < length kinds.now }
     requires sound { AreSound kinds.now }
-    ensures enough { len ≤ result * fill_of kinds.now kind }
+    ensures enough { len ≤ capacity kinds.now kind result }
 {
-    parts_for(u64::from(len), u64::from(fill(kinds, kind))) as u32
+    let NodeKind { hi, shape, .. } = kind_of(kinds, kind);
+    match shape {
+        Shape::Post(post) => {
+            if post == kind {
+                parts(len, hi)
+            } else {
+                len.min(1) + parts(len - hi.min(len), fill(kinds, post))
+            }
+        }
+        _ => parts(len, fill(kinds, kind)),
+    }
+}
+
+/// The least number of nodes with so many elements each.
+fn parts(len: u32, each: u32) -> u32
+    requires some { 0 < each }
+    ensures fits { len ≤ result * each }
+    ensures few { result ≤ len }
+{
+    parts_for(u64::from(len), u64::from(each)) as u32
 }
 
 /// The root of a new structure of this kind with these elements; none where there are no elements.
@@ -94,7 +113,7 @@ fn subtree<L: Ledger>(
     requires linked { shape_at kinds.now kind ≢ Shape.Flat }
     requires serves { Serves kinds.now arena.old }
     requires few { length elems.now < 4294967296 }
-    requires spare { length elems.now ≤ arena.old.nodes.spare * fill_of kinds.now kind }
+    requires spare { length elems.now ≤ capacity kinds.now kind arena.old.nodes.spare }
     ensures built { Builds kinds.now (whole kinds.now kind) arena.old arena.new elems.now result }
     ensures used { arena.old.nodes.spare * fill_of kinds.now kind < arena.new.nodes.spare * fill_of kinds.now kind + length elems.now + fill_of kinds.now kind }
     ensures steps { steps.new + arena.new.nodes.spare ≡ steps.old + arena.old.nodes.spare }

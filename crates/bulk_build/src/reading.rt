@@ -3,8 +3,7 @@ ghost use Rattle.std.specs.Prelude.{IsSome};
 ghost use Rattle.node_arena.specs.Arenas.{node_at, run_at};
 ghost use Rattle.bulk_build.specs.Layouts.{HasTree};
 
-use crate::lookup::kind_of;
-use node_arena::{Arena, Elem, NodeId, NodeKind, RunId, Shape};
+use node_arena::{Arena, Elem, NodeId, NodeKind, RunId, Shape, kind_of};
 
 /// What hangs at a link: how many nodes with two links lie below one another, how many woven nodes do, how many nodes there are,
 /// where the list goes on behind its elements, and whether all is as the schema has it.

@@ -211,8 +211,7 @@ fn two_links_part_the_elements_evenly(rt: HostRuntime) -> Result<(), Fail> {
 
 #[test]
 fn a_woven_structure_has_one_depth(rt: HostRuntime) -> Result<(), Fail> {
-    let (wrong, nodes) = wrong_at(rt.alloc(), &woven_kind(2, 8))?;
-    assert!(rt; wrong.is_none() && 375 <= nodes && nodes <= 750);
+    assert_eq!(rt; wrong_at(rt.alloc(), &woven_kind(4, 8))?, (None, 378));
     let (wrong, nodes) = wrong_at(rt.alloc(), &woven_kind(2, 16))?;
     assert!(rt; wrong.is_none() && 188 <= nodes && nodes <= 375);
     let (wrong, nodes) = wrong_at(rt.alloc(), &woven_kind(1, 2))?;
@@ -224,47 +223,101 @@ fn a_woven_structure_has_one_depth(rt: HostRuntime) -> Result<(), Fail> {
 
 #[test]
 fn kinds_that_lead_to_others_build_as_those_do(rt: HostRuntime) -> Result<(), Fail> {
-    let (wrong, _) = wrong_at(rt.alloc(), &headed_kinds())?;
-    assert!(rt; wrong.is_none());
-    let (wrong, _) = wrong_at(rt.alloc(), &mixed_kinds())?;
-    assert!(rt; wrong.is_none());
+    assert_eq!(rt; wrong_at(rt.alloc(), &headed_kinds())?, (None, 1506));
+    assert_eq!(rt; wrong_at(rt.alloc(), &mixed_kinds())?, (None, 878));
     Ok(())
 }
 
-/// Builds a structure and then another one, and answers whether the first is there, whether or not there was memory for the second.
-fn left<L: Ledger>(alloc: Global, blank: Blank, kinds: &[NodeKind]) -> Result<bool, NoMemory>
+/// What is seen after a build: whether it was refused, whether the structure of before is there, and where the next one begins.
+#[derive(Clone, Copy, Debug)]
+struct Aftermath {
+    refused: bool,
+    kept: bool,
+    next: Top,
+}
+
+/// Looks for a structure, and builds another one with the same elements.
+fn seen<L: Ledger>(
+    kinds: &[NodeKind],
+    refused: bool,
+    old: &Structure,
+    elems: &[Elem],
+    arena: &mut Arena,
+    steps: &mut Steps<L>,
+) -> Result<Aftermath, NoMemory>
+    requires there { HasTop arena.old old.now.top }
+    requires sound { AreSound kinds.now }
+    requires some { 0 < length kinds.now }
+    requires wide { MOST_ELEMENTS ≤ arena.old.nodes.most }
+    requires rising { IsRising elems.now }
+    requires few { length elems.now ≤ 3000 }
+{
+    let kept = nodes_of(kinds, arena, old, elems).is_some();
+    let next = build(kinds, 0, elems, arena, steps)?.top;
+    Ok(Aftermath {
+        refused,
+        kept,
+        next,
+    })
+}
+
+/// Builds a structure of 21 elements, one of so many elements, and one of 21 again.
+fn left<L: Ledger>(
+    alloc: Global,
+    blank: Blank,
+    kinds: &[NodeKind],
+    count: u32,
+) -> Result<Aftermath, NoMemory>
     requires name { blank.name ≡ L.name }
     requires parts { blank.parts ≡ L.parts }
     requires one { blank.parts ≡ 1 }
     requires sound { AreSound kinds.now }
     requires some { 0 < length kinds.now }
+    requires few { count ≤ 3000 }
 {
     let mut steps = Steps::<L>::open(blank);
     let mut arena = Arena::new(alloc, MOST_ELEMENTS);
     let few = list(21);
-    let elems = list(100);
+    let elems = list(count);
     let old = build(kinds, 0, few.as_slice(), &mut arena, &mut steps)?;
     match build(kinds, 0, elems.as_slice(), &mut arena, &mut steps) {
-        Ok(_) => Ok(nodes_of(kinds, &arena, &old, few.as_slice()).is_some()),
-        Err(_) => Ok(nodes_of(kinds, &arena, &old, few.as_slice()).is_some()),
+        Ok(_) => seen(kinds, false, &old, few.as_slice(), &mut arena, &mut steps),
+        Err(_) => seen(kinds, true, &old, few.as_slice(), &mut arena, &mut steps),
     }
 }
 
-/// Whether what was there is there, unless memory was refused elsewhere.
+/// The same with a counter of its own.
+fn left_by(alloc: Global, kinds: &[NodeKind], count: u32) -> Result<Aftermath, NoMemory>
+    requires sound { AreSound kinds.now }
+    requires some { 0 < length kinds.now }
+    requires few { count ≤ 3000 }
+{
+    left::<Brand>(alloc, Blank::new(1), kinds, count)
+}
+
+/// Whether what was there is there after a build of 100 elements, and nothing else where it was refused: the next structure then begins where
+/// it does without that build. Where memory is refused elsewhere, nothing is seen.
 fn is_left(alloc: Global, kinds: &[NodeKind]) -> bool
     requires sound { AreSound kinds.now }
     requires some { 0 < length kinds.now }
 {
-    match left::<Brand>(alloc, Blank::new(1), kinds) {
-        Ok(there) => there,
-        Err(_) => true,
-    }
+    let after = match left_by(alloc, kinds, 100) {
+        Ok(left) => left,
+        Err(_) => return true,
+    };
+    let alone = match left_by(alloc, kinds, 0) {
+        Ok(left) => left,
+        Err(_) => return true,
+    };
+    after.kept && alone.kept && (!after.refused || after.next == alone.next)
 }
 
 #[test]
-fn what_was_there_is_there_with_or_without_memory(rt: HostRuntime) -> Result<(), Fail> {
+fn a_build_that_is_refused_leaves_what_was_there_alone(rt: HostRuntime) -> Result<(), Fail> {
     assert!(rt; is_left(rt.alloc(), &flat_kind()));
     assert!(rt; is_left(rt.alloc(), &chained_kind(8)));
+    assert!(rt; is_left(rt.alloc(), &paired_kind(1)));
+    assert!(rt; is_left(rt.alloc(), &woven_kind(4, 8)));
     assert!(rt; is_left(rt.alloc(), &mixed_kinds()));
     Ok(())
 }

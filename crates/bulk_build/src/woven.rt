@@ -7,10 +7,9 @@ ghost use Rattle.node_arena.specs.Rules.{AreSound, Serves};
 ghost use Rattle.bulk_build.specs.Layouts.{Builds, Weaves, FitsLevels};
 
 use crate::levels::{Levels, child_levels, later_children, levels_for, start_of_last};
-use crate::lookup::kind_of;
 use arrayvec::ArrayVec;
 use dt_model::Steps;
-use node_arena::{Arena, Elem, NodeId, NodeKind};
+use node_arena::{Arena, Elem, NodeId, NodeKind, kind_of};
 use std::sync::ledger::Ledger;
 
 /// The root of a new woven structure with these elements, at least one.

@@ -16,7 +16,9 @@ use Rattle.node_arena.specs.Walks.{item, link, parts, between, joined, walk, wal
 use Rattle.chunk_tree.specs.Balancing.{Holds, IsRebalanced}
 use Rattle.chunk_tree.specs.Relinking.{Cell, Without, numbers_of, joined_rows, around, rows, cells, IsNarrow, IsAt, IsLaid, IsLinked, root_at, top_at}
 use Rattle.chunk_tree.proofs.Cells.{AllStand-cells, AreDistinct-cells, Without-cells, Avoids-cells}
-use Rattle.chunk_tree.proofs.Pairs.{One, joined-items, joined-links, level-ends, no-more}
+use Rattle.node_arena.proofs.WalksLemmas.{joined-items, joined-links}
+use Rattle.chunk_tree.proofs.Listing.{HasNode-avoided}
+use Rattle.chunk_tree.proofs.Pairs.{One, level-ends, no-more}
 
 -- ---- trees of one kind
 
@@ -226,7 +228,8 @@ walk-links s k empty h f = refl
 walk-links s k (rooted i m run ls) h f = refl
 walk-links s k (flat i run) h f = absurd (f h.0)
 
-roots-links : (s : List NodeKind) (k : ℕ) (t : Tree) → ConformTree s k t → shape_at s k ≢ Flat → roots (links_of t) ≡ root_at (top_of t) ∷ []
+-- a structure of nodes is one tree
+pub roots-links : (s : List NodeKind) (k : ℕ) (t : Tree) → ConformTree s k t → shape_at s k ≢ Flat → roots (links_of t) ≡ root_at (top_of t) ∷ []
 roots-links s k empty h f = refl
 roots-links s k (rooted i m run ls) h f = refl
 roots-links s k (flat i run) h f = absurd (f h.0)
@@ -331,5 +334,11 @@ module _ (s : List NodeKind) (k : ℕ) (a : ArenaState) (st : Structure) (t : Tr
         news = record {
           nodes = λ j g v. subst (Avoids j) (sym (links-tree w one)) (Avoids-cells j w (subst (Without j) (sym l.cells_are) (Without-cells j (links_of t) v)));
           runs = λ j g v. no-run j w;
+        };
+        nodes = record {
+          gone = λ j g v.
+              let away : Avoids j w = subst (Avoids j) (links-tree w one) v in
+              absurd (HasNode-avoided j (links_of t) g (Avoids-cells j (links_of t) (subst (Without j) l.cells_are (Without-cells j w away))));
+          others = λ j v away. l.keeps j (Without-cells j (links_of t) v);
         };
       }

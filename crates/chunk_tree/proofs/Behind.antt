@@ -1,5 +1,5 @@
 -- What stays behind a new node that goes in before it, and a new node with one element.
-use Rattle.std.proofs.Common.{◌≡◌, ◌≢◌, ◌≤◌, ◌+◌, ℕ, max, List, [], ◌∷◌, ◌++◌, map, length, Option, Some, None, IsSome, true, refl, ap, ◌∙◌, sym, subst, arith, append-nil}
+use Rattle.std.proofs.Common.{◌≡◌, ◌≢◌, ◌≤◌, ◌+◌, ℕ, max, List, [], ◌∷◌, ◌++◌, map, length, Option, Some, None, IsSome, is_some, true, refl, ap, ◌∙◌, sym, subst, arith, append-nil}
 use Rattle.node_arena.specs.declared.elements.Elem.{Elem}
 use Rattle.node_arena.specs.declared.kinds.NodeKind.{NodeKind}
 use Rattle.node_arena.specs.declared.kinds.Shape.{Shape}
@@ -7,21 +7,18 @@ use Rattle.node_arena.specs.declared.kinds.Shape.TheVariants.{Flat, Post, Ends, 
 use Rattle.node_arena.specs.Arenas.{ArenaState, node_at, ChangesNode}
 use Rattle.node_arena.specs.Conforming.{Hang, whole, IsLevel, IsLevelAt, spine, spine_by, places, least_of}
 use Rattle.node_arena.specs.Kinds.{kind_at, shape_at}
+use Rattle.node_arena.specs.Passing.{Deepens, wedge_depth}
 use Rattle.node_arena.specs.Rules.{AreSound, HasSoundLinks, post_of}
 use Rattle.node_arena.specs.Trees.{Trees, done, absent, node, roots, stored, Stands, Avoids, IsReachedOnce}
 use Rattle.node_arena.specs.Walks.{link, parts, joined, walk, walks}
-use Rattle.node_arena.proofs.FramesLemmas.{Stands-changed, Avoids-free}
+use Rattle.node_arena.proofs.ChangesLemmas.{node_differs}
+use Rattle.node_arena.proofs.DepthsLemmas.{wedge_depth-ends}
+use Rattle.node_arena.proofs.FramesLemmas.{Stands-changed, Avoids-free, IsApart-done}
+use Rattle.node_arena.proofs.WalksLemmas.{joined-items, joined-links}
 use Rattle.chunk_tree.specs.Writes.{links_before}
 use Rattle.chunk_tree.specs.Ways.{has_two_links}
-use Rattle.chunk_tree.proofs.Pairs.{joined-items, joined-links, walk-two, level-ends, spine-ends}
-use Rattle.chunk_tree.proofs.Turning.{Turns, IsApart-done}
-
--- a number with a node isn't one without
-pub some_differs : (a : ArenaState) (i j : ℕ) → IsSome (node_at a i) → node_at a j ≡ None → j ≢ i
-some_differs a i j h e same = absurd_some (subst (λ n. IsSome (node_at a n)) (sym same) h) e
-  where
-    absurd_some : IsSome (node_at a j) → node_at a j ≡ None → ⊥
-    absurd_some h e = let k = subst IsSome e h in cc
+use Rattle.chunk_tree.proofs.Pairs.{walk-two, level-ends, spine-ends}
+use Rattle.chunk_tree.proofs.Turning.{Turns}
 
 -- ---- a new node before an old structure of the same kind
 
@@ -42,6 +39,8 @@ pub record Behind (s : List NodeKind) (q : ℕ) (upper : List Elem) (v vs : Tree
   pub hangs : Hang s (whole s q ∷ []) v → Hang s (places s (shape_at s q) q upper vs) vs
   pub walk_is : (j : ℕ) → walk s (node j q upper vs done) ≡ upper ++ walk s v
   pub spine_low : (j : ℕ) → spine s (node j q upper vs done) ≤ 1 + spine s v
+  pub deepens : (j : ℕ) (l : Option ℕ) → roots v ≡ l ∷ []
+      → Deepens (wedge_depth (shape_at s q) (is_some l) 0) (spine s v) (spine s (node j q upper vs done))
   pub roots_are : (l : Option ℕ) → roots v ≡ l ∷ [] → roots vs ≡ links_before (shape_at s q) l
   pub least : (whole s q).least ≤ 1
 
@@ -62,6 +61,8 @@ behind-by s q upper v (Post r) e is lo =
       walk_is = λ j. append-nil (joined (parts (shape_at s q) upper (walks s v))) ∙ ap (λ sh. joined (parts sh upper (walks s v))) e
           ∙ joined-items upper (map link (walks s v)) ∙ ap (λ w. upper ++ w) (joined-links s v);
       spine_low = λ j. let n : spine s (node j q upper v done) ≡ spine s v = ap (λ sh. max (spine_by sh (spine s v)) 0) e ∙ m in omega arith;
+      deepens = λ j l one. subst (λ sh. Deepens (wedge_depth sh (is_some l) 0) (spine s v) (spine s (node j q upper v done))) (sym e)
+          (let n : spine s (node j q upper v done) ≡ spine s v = ap (λ sh. max (spine_by sh (spine s v)) 0) e ∙ m in omega arith);
       roots_are = λ l h. h ∙ ap (λ sh. links_before sh l) (sym e);
       least = subst (λ sh. least_of (kind_at s q) sh ≤ 1) (sym e) (omega arith);
     }
@@ -76,6 +77,8 @@ behind-by s q upper v (Ends p r) e is lo =
       hangs = λ h. subst (λ sh. Hang s (places s sh q upper (absent v)) (absent v)) (sym e) (refl, subst (λ n. Hang s (whole s n ∷ []) v) (sym same) h);
       walk_is = λ j. walk-two s j q p r upper (absent done) v e refl;
       spine_low = λ j. let n : spine s (node j q upper (absent v) done) ≡ 1 + spine s v = spine-ends s j q p r upper (absent v) e in omega arith;
+      deepens = λ j l one. subst (λ sh. Deepens (wedge_depth sh (is_some l) 0) (spine s v) (spine s (node j q upper (absent v) done))) (sym e)
+          (wedge_depth-ends s v p r (spine s (node j q upper (absent v) done)) l one (spine-ends s j q p r upper (absent v) e));
       roots_are = λ l h. ap (λ w. None ∷ w) h ∙ ap (λ sh. links_before sh l) (sym e);
       least = subst (λ sh. least_of (kind_at s q) sh ≤ 1) (sym e) (omega arith);
     }
@@ -104,9 +107,9 @@ module _ (s : List NodeKind) (a m : ArenaState) (i q j : ℕ) (upper : List Elem
         hangs = (refl, omega (arith, b.least), high, b.hangs hangs, refl);
         level = (b.level_at, b.level level, tt);
         spine_low = b.spine_low j;
-        away = (some_differs a i j some free, b.avoids i av, tt);
-        keeps = λ n h w. c.node.others n (λ z. some_differs a n j h free (sym z));
-        news = λ n h w. (some_differs a n j h free, b.avoids n w.1, tt);
+        away = (node_differs a i j some free, b.avoids i av, tt);
+        keeps = λ n h w. c.node.others n (λ z. node_differs a n j h free (sym z));
+        news = λ n h w. (node_differs a n j h free, b.avoids n w.1, tt);
       }
 
 -- ---- a new node with one element
@@ -125,6 +128,10 @@ ends-of Woven h = cc
 module _ (s : List NodeKind) (x : Elem) (kind j : ℕ) (sound : AreSound s) (two : has_two_links (shape_at s kind) ≡ true) where
   pub leaf-walk : walk s (leaf_of j kind x) ≡ x ∷ []
   leaf-walk = let e = ends-of (shape_at s kind) two in walk-two s j kind e.0 e.1 (x ∷ []) (absent done) (absent done) e.2 refl
+
+  -- its spine
+  pub leaf-spine : spine s (leaf_of j kind x) ≡ 1
+  leaf-spine = let e = ends-of (shape_at s kind) two in spine-ends s j kind e.0 e.1 (x ∷ []) (absent (absent done)) e.2
 
   -- nothing has become a leaf
   pub leaf-turns : (a m : ArenaState) (i : ℕ) (t : Trees) → IsSome (node_at a i) → node_at a j ≡ None
@@ -148,7 +155,7 @@ module _ (s : List NodeKind) (x : Elem) (kind j : ℕ) (sound : AreSound s) (two
         );
         level = (level-ends s kind e.0 e.1 (absent (absent done)) e.2, tt, tt);
         spine_low = omega arith;
-        away = (some_differs a i j some free, tt, tt);
-        keeps = λ n h w. c.node.others n (λ z. some_differs a n j h free (sym z));
-        news = λ n h w. (some_differs a n j h free, tt, tt);
+        away = (node_differs a i j some free, tt, tt);
+        keeps = λ n h w. c.node.others n (λ z. node_differs a n j h free (sym z));
+        news = λ n h w. (node_differs a n j h free, tt, tt);
       }

@@ -62,7 +62,8 @@ pub AllStand-moved : (a b : ArenaState) (xs cs : List Cell) → ((j : ℕ) → W
 AllStand-moved a b xs [] f h g = tt
 AllStand-moved a b xs (c ∷ cs) f h g = ((g.0.0, f c.at h.0 ∙ g.0.1), AllStand-moved a b xs cs f h.1 g.1)
 
-either-step : (n j : ℕ) (P : Type 0) → (n ≡ j → P) → (n ≢ j → P) → (b c : Bool) → ltb n j ≡ b → ltb j n ≡ c → P
+-- a number is the same or another one
+pub either-step : (n j : ℕ) (P : Type 0) → (n ≡ j → P) → (n ≢ j → P) → (b c : Bool) → ltb n j ≡ b → ltb j n ≡ c → P
 either-step n j P f g true c h k = g (λ e. let l : n < j = grind (arith, h) in omega arith)
 either-step n j P f g false true h k = g (λ e. let l : j < n = grind (arith, k) in omega arith)
 either-step n j P f g false false h k = f (grind (arith, h, k))

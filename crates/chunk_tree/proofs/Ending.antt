@@ -1,24 +1,26 @@
 -- What is done at the node at which the way ends.
-use Rattle.std.proofs.Common.{◌≡◌, ◌≢◌, ◌≤◌, ◌<◌, ◌+◌, ◌/◌, ◌⊎◌, inl, inr, ℕ, true, List, [], ◌∷◌, ◌++◌, length, get_or, Some, None, refl, ap, ◌∙◌, sym, subst, arith, append_assoc, length-append}
+use Rattle.std.proofs.Common.{◌≡◌, ◌≢◌, ◌≤◌, ◌<◌, ◌+◌, ◌/◌, ◌⊎◌, inl, inr, ℕ, max, true, List, [], ◌∷◌, ◌++◌, length, get_or, Some, None, is_some, refl, ap, ◌∙◌, sym, subst, arith, append_assoc, length-append}
 use Rattle.node_arena.specs.declared.elements.Elem.{Elem}
 use Rattle.node_arena.specs.declared.elements.Side.TheVariants as sides
 use Rattle.node_arena.specs.declared.kinds.NodeKind.{NodeKind}
 use Rattle.node_arena.specs.declared.kinds.Shape.TheVariants.{Woven}
 use Rattle.node_arena.specs.Arenas.{ArenaState, ChangesNode}
-use Rattle.node_arena.specs.Conforming.{Hang, whole, IsLevel}
+use Rattle.node_arena.specs.Conforming.{Hang, whole, IsLevel, spine}
 use Rattle.node_arena.specs.Insertions.{put_in}
 use Rattle.node_arena.specs.Kinds.{kind_at, shape_at}
-use Rattle.node_arena.specs.Passing.{IsDone}
+use Rattle.node_arena.specs.Passing.{IsDone, Deepens, wedge_depth}
 use Rattle.node_arena.specs.Rules.{AreSound, post_of}
 use Rattle.node_arena.specs.Trees.{Trees, done, node, roots, stored, Stands, Avoids, IsReachedOnce}
 use Rattle.node_arena.specs.Walks.{walk}
+use Rattle.node_arena.proofs.DepthsLemmas.{wedge_depth-deeper}
+use Rattle.node_arena.proofs.PutInLemmas.{length-put_in}
 use Rattle.node_arena.proofs.RowsLemmas.{beside, roots-beside}
 use Rattle.chunk_tree.specs.Ways.{Takes, first_of, last_of, kind_on, has_two_links}
 use Rattle.chunk_tree.specs.Writes.{Fits, Wedges, links_before, Hangs}
-use Rattle.chunk_tree.proofs.Behind.{behind, trees_before, wedge-turns, leaf_of, leaf-turns, leaf-walk}
-use Rattle.chunk_tree.proofs.Opening.{Opened, nothing-at, pre-hangs, post-hangs, both-stand, both-avoid, both-once, both-level, some-node, pre-turned, post-turned, head-root, tail-root}
-use Rattle.chunk_tree.proofs.Order.{goes-run, goes-pre, goes-post, length-put_in}
-use Rattle.chunk_tree.proofs.Pairs.{head_of, tail_of, parted, roots-head, roots-tail}
+use Rattle.chunk_tree.proofs.Behind.{behind, trees_before, wedge-turns, leaf_of, leaf-turns, leaf-walk, leaf-spine}
+use Rattle.chunk_tree.proofs.Opening.{Opened, nothing-at, pre-hangs, post-hangs, both-stand, both-avoid, both-once, both-level, some-node, pre-turned, post-turned, pre-deepens, post-deepens, head-root, tail-root}
+use Rattle.chunk_tree.proofs.Order.{goes-run, goes-pre, goes-post}
+use Rattle.chunk_tree.proofs.Pairs.{head_of, tail_of, parted, roots-head, roots-tail, spine-join, spine-ends}
 use Rattle.chunk_tree.proofs.Turning.{Turns}
 
 -- nothing has become of it
@@ -35,6 +37,10 @@ turns-same s p a i t st once hang level av = record {
   keeps = λ j h w. refl;
   news = λ j h w. w.1;
 }
+
+-- a leaf where nothing was goes one deep
+leaf-deepens : (n m : ℕ) → n ≡ 0 → m ≡ 1 → Deepens (Some 1) n m
+leaf-deepens n m e f = omega arith
 
 module _ (s : List NodeKind) (a b : ArenaState) (x : Elem) (i k p q : ℕ) (run : List Elem) (ls : Trees) (sound : AreSound s)
     (o : Opened s a i k p q run ls) where
@@ -57,9 +63,12 @@ module _ (s : List NodeKind) (a b : ArenaState) (x : Elem) (i k p q : ℕ) (run 
       last (inr h) = inr (ap (walk s) (nothing-at s (whole s q) v (post-hangs s a i k p q run ls o) (roots-tail ls ∙ h.1)))
 
   -- the run has room
-  pub fitted : Takes (kind_at s k).hi x.at (stored k run ls) None → Fits s x a b i (stored k run ls) → IsDone s a b x (node i k run ls done)
+  pub fitted : Takes (kind_at s k).hi x.at (stored k run ls) None → Fits s x a b i (stored k run ls)
+      → IsDone s a b x (node i k run ls done) (Some 0)
   fitted takes f =
       let len : length (put_in x run) ≡ length run + 1 = length-put_in x run in
+      let spine_is : spine s (node i k (put_in x run) (beside u v) done) ≡ 1 + max (spine s u) (spine s v) =
+      spine-ends s i k p q (put_in x run) (beside u v) o.shape ∙ ap (λ n. 1 + n) (spine-join s u v) in
       let ch : ChangesNode a b i (Some (stored k (put_in x run) (beside u v))) = subst (λ w. ChangesNode a b i (Some (stored k (put_in x run) w)))
       (parted ls) f.puts in
       record {
@@ -70,6 +79,7 @@ module _ (s : List NodeKind) (a b : ArenaState) (x : Elem) (i k p q : ℕ) (run 
             (both-level s a i k p q run ls o).1
             (both-avoid s a i k p q run ls o).1)
             ch (sym (run-walk (kind_at s k).hi takes));
+        deepens = let e = spine_is in let f = o.spine_is in omega arith;
       }
 
   post-own : shape_at s q ≢ Woven → (shape_at s q ≡ Woven) ⊎ ((post_of (shape_at s q) ≡ Some q) × (((kind_at s k).hi + 1) / 2 ≤ (kind_at s q).hi))
@@ -81,6 +91,7 @@ module _ (s : List NodeKind) (a b : ArenaState) (x : Elem) (i k p q : ℕ) (run 
   pub wedged : (j : ℕ) → shape_at s (kind_on (shape_at s k) sides.Post) ≢ Woven → Takes (kind_at s k).hi x.at (stored k run ls) None
       → Wedges s x a b i (stored k run ls) j
       → IsDone s a b x (node i k run ls done)
+      (wedge_depth (shape_at s (kind_on (shape_at s k) sides.Post)) (is_some (get_or (roots ls) 1 None)) 1)
   wedged j ne takes w =
       let on : kind_on (shape_at s k) sides.Post ≡ q = ap (λ sh. kind_on sh sides.Post) o.shape in
       let kind : w.kind ≡ q = w.kind_is ∙ on in
@@ -112,12 +123,18 @@ module _ (s : List NodeKind) (a b : ArenaState) (x : Elem) (i k p q : ℕ) (run 
             (subst (λ l. ChangesNode w.between b i (Some (record { kind = k; run = w.lower; links = l }))) links w.puts)
             (ap (λ z. walk s u ++ (w.lower ++ z)) (bh.walk_is j) ∙ ap (λ z. walk s u ++ z) (sym (append_assoc w.lower w.upper (walk s v)))
             ∙ ap (λ z. walk s u ++ (z ++ walk s v)) (sym w.parts.both) ∙ sym (run-walk (kind_at s k).hi takes));
+        deepens = subst (λ n. Deepens (wedge_depth (shape_at s n) (is_some (get_or (roots ls) 1 None)) 1) (spine s (node i k run ls done))
+            (spine s (node i k w.lower (beside u new) done))) (sym on)
+            (wedge_depth-deeper (shape_at s q) (is_some (get_or (roots ls) 1 None)) 1 0 (spine s (node i k run ls done))
+            (spine s (node i k w.lower (beside u new) done)) (omega (arith, o.spine_is))
+            (post-deepens s a i k p q run ls o (wedge_depth (shape_at s q) (is_some (get_or (roots ls) 1 None)) 0) new w.lower
+            (bh.deepens j (get_or (roots ls) 1 None) (tail-root s a i k p q run ls o))));
       }
 
   -- x alone is a new node's before the run
   pub hung-pre : (j hi : ℕ) → get_or (roots ls) 0 None ≡ None → Takes hi x.at (stored k run ls) (Some sides.Pre)
       → has_two_links (shape_at s (kind_on (shape_at s k) sides.Pre)) ≡ true
-      → Hangs s x a b i (stored k run ls) sides.Pre j → IsDone s a b x (node i k run ls done)
+      → Hangs s x a b i (stored k run ls) sides.Pre j → IsDone s a b x (node i k run ls done) (Some 2)
   hung-pre j hi none takes two h =
       let on : kind_on (shape_at s k) sides.Pre ≡ p = ap (λ sh. kind_on sh sides.Pre) o.shape in
       let kind : h.kind ≡ p = h.kind_is ∙ on in
@@ -135,12 +152,15 @@ module _ (s : List NodeKind) (a b : ArenaState) (x : Elem) (i k p q : ℕ) (run 
             (subst (λ l. ChangesNode h.between b i (Some (record { kind = k; run = run; links = l }))) links h.puts)
             (ap (λ z. z ++ (run ++ walk s v)) (leaf-walk s x p j sound ends ∙ sym (ap (put_in x) empty))
             ∙ sym (goes-pre x (walk s u) run (walk s v) o.low takes.0));
+        deepens = pre-deepens s a i k p q run ls o (Some 1) leaf run
+            (leaf-deepens (spine s u) (spine s leaf) (ap (spine s) (nothing-at s (whole s p) u (pre-hangs s a i k p q run ls o) (roots-head ls ∙ none)))
+            (leaf-spine s x p j sound ends));
       }
 
   -- x alone is a new node's behind the run
   pub hung-post : (j hi : ℕ) → get_or (roots ls) 1 None ≡ None → Takes hi x.at (stored k run ls) (Some sides.Post)
       → has_two_links (shape_at s (kind_on (shape_at s k) sides.Post)) ≡ true
-      → Hangs s x a b i (stored k run ls) sides.Post j → IsDone s a b x (node i k run ls done)
+      → Hangs s x a b i (stored k run ls) sides.Post j → IsDone s a b x (node i k run ls done) (Some 2)
   hung-post j hi none takes two h =
       let on : kind_on (shape_at s k) sides.Post ≡ q = ap (λ sh. kind_on sh sides.Post) o.shape in
       let kind : h.kind ≡ q = h.kind_is ∙ on in
@@ -158,4 +178,7 @@ module _ (s : List NodeKind) (a b : ArenaState) (x : Elem) (i k p q : ℕ) (run 
             (subst (λ l. ChangesNode h.between b i (Some (record { kind = k; run = run; links = l }))) links h.puts)
             (ap (λ z. walk s u ++ (run ++ z)) (leaf-walk s x q j sound ends ∙ sym (ap (put_in x) empty))
             ∙ sym (goes-post x (walk s u) run (walk s v) o.low o.rising takes.0));
+        deepens = post-deepens s a i k p q run ls o (Some 1) leaf run
+            (leaf-deepens (spine s v) (spine s leaf) (ap (spine s) (nothing-at s (whole s q) v (post-hangs s a i k p q run ls o) (roots-tail ls ∙ none)))
+            (leaf-spine s x q j sound ends));
       }

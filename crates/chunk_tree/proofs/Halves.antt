@@ -3,12 +3,11 @@ use Rattle.std.proofs.Common.{◌≡◌, ◌≤◌, ◌<◌, ◌+◌, ◌-◌, �
 use Rattle.std.proofs.lemmas.List.{take-map, drop-map, length-map}
 use Rattle.node_arena.specs.Arenas.{ArenaState, NodeState, node_at, ChangesNode}
 use Rattle.node_arena.specs.Trees.{Trees, done, absent, node, roots, Stands, Avoids, IsApart}
-use Rattle.node_arena.proofs.FramesLemmas.{Stands-changed, Stands-outside}
+use Rattle.node_arena.proofs.FramesLemmas.{IsApart-done, Stands-changed, Stands-outside}
 use Rattle.node_arena.proofs.RowsLemmas.{beside, roots-beside, Stands-beside, Avoids-beside, IsReachedOnce-beside}
 use Rattle.chunk_tree.specs.Relinking.{Cell, CellStands, AllStand, Without, AreDistinct, numbers_of, cells, IsNarrow, IsLaid, IsLinked}
 use Rattle.chunk_tree.proofs.Cells.{Without-parts, AreDistinct-parts, AllStand-parts, AllStand-moved, AreDistinct-skip, clear-parts, either, IsApart-by, Without-cells, Avoids-cells, cells-node}
 use Rattle.chunk_tree.proofs.Pairs.{One, head_of, tail_of, no-more}
-use Rattle.chunk_tree.proofs.Turning.{IsApart-done}
 
 -- ---- the middle
 

@@ -12,5 +12,11 @@ pub mod Whole
 pub mod Cells
 pub mod Narrow
 pub mod Halves
+pub mod Listing
+pub mod Handed
+pub mod Freeing
 pub mod Anew
+pub mod Counting
+pub mod Renewed
 pub mod TrialLemmas
+pub mod RowTrialLemmas

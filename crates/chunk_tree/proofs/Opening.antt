@@ -1,5 +1,5 @@
 -- What a tree of nodes with two links says of its root, and of what hangs at it.
-use Rattle.std.proofs.Common.{◌≡◌, ◌≢◌, ◌≤◌, ◌+◌, ℕ, max, List, [], ◌∷◌, ◌++◌, length, get_or, Some, None, IsSome, refl, ap, ◌∙◌, sym, subst, arith, length-append}
+use Rattle.std.proofs.Common.{◌≡◌, ◌≢◌, ◌≤◌, ◌+◌, ℕ, max, List, [], ◌∷◌, ◌++◌, length, get_or, Option, Some, None, IsSome, refl, ap, ◌∙◌, sym, subst, arith, length-append}
 use Rattle.node_arena.specs.declared.elements.Elem.{Elem}
 use Rattle.node_arena.specs.declared.kinds.NodeKind.{NodeKind}
 use Rattle.node_arena.specs.declared.kinds.Shape.TheVariants.{Flat, Ends}
@@ -7,12 +7,15 @@ use Rattle.node_arena.specs.Arenas.{ArenaState, node_at, ChangesNode}
 use Rattle.node_arena.specs.Conforming.{Hang, whole, IsLevel, spine, Place, IsRising, places, least_of, Conform}
 use Rattle.node_arena.specs.Insertions.{PutsIn, all_put_in, Lacks}
 use Rattle.node_arena.specs.Kinds.{kind_at, shape_at}
+use Rattle.node_arena.specs.Passing.{Deepens, deeper}
 use Rattle.node_arena.specs.Rules.{AreSound, HasSoundLinks, MayFollow}
 use Rattle.node_arena.specs.Trees.{Trees, done, absent, node, roots, stored, Stands, Avoids, IsApart, IsReachedOnce}
 use Rattle.node_arena.specs.Walks.{walk}
+use Rattle.node_arena.proofs.DepthsLemmas.{Deepens-ends}
+use Rattle.node_arena.proofs.PlacesLemmas.{hang-none}
+use Rattle.node_arena.proofs.PutInLemmas.{IsRising-suffix, IsRising-prefix, append-Lacks}
 use Rattle.node_arena.proofs.RowsLemmas.{beside, roots-beside, beside-Stands, beside-Avoids, beside-IsReachedOnce}
-use Rattle.chunk_tree.proofs.Order.{IsRising-suffix, IsRising-prefix, Lacks-parts}
-use Rattle.chunk_tree.proofs.Pairs.{head_of, tail_of, parted, beside-done, roots-head, roots-tail, One, walk-two, hang-parts, hang-join, hang-one, hang-none, hang-node, level-parts, spine-join, spine-ends}
+use Rattle.chunk_tree.proofs.Pairs.{head_of, tail_of, parted, beside-done, roots-head, roots-tail, One, walk-two, hang-parts, hang-join, hang-one, hang-node, level-parts, spine-join, spine-ends}
 use Rattle.chunk_tree.proofs.Turning.{Turns, turned}
 
 -- the root, and the trees before and behind its run
@@ -129,8 +132,8 @@ module _ (s : List NodeKind) (a : ArenaState) (i k p q : ℕ) (run : List Elem) 
   -- a coordinate that the whole lacks
   pub lacks-parts : (n : ℕ) → Lacks n (walk s (node i k run ls done)) → Lacks n (walk s (head_of ls)) × Lacks n run × Lacks n (walk s (tail_of ls))
   lacks-parts n h =
-      let l = Lacks-parts n (walk s (head_of ls)) (run ++ walk s (tail_of ls)) (subst (Lacks n) o.walk_is h) in
-      let r = Lacks-parts n run (walk s (tail_of ls)) l.1 in
+      let l = append-Lacks n (walk s (head_of ls)) (run ++ walk s (tail_of ls)) (subst (Lacks n) o.walk_is h) in
+      let r = append-Lacks n run (walk s (tail_of ls)) l.1 in
       (l.0, r.0, r.1)
 
   -- the two links, one by one
@@ -147,6 +150,23 @@ module _ (s : List NodeKind) (a : ArenaState) (i k p q : ℕ) (run : List Elem) 
   both-roots =
       ap roots (parted ls) ∙ roots-beside (head_of ls) (tail_of ls) ∙ ap (λ w. w ++ roots (tail_of ls)) head-root
       ∙ ap (λ w. get_or (roots ls) 0 None ∷ w) tail-root
+
+  -- the spine, where another tree is before the run, or behind it
+  pub pre-deepens : (deep : Option ℕ) (v : Trees) (new_run : List Elem) → Deepens deep (spine s (head_of ls)) (spine s v)
+      → Deepens (deeper (Some 1) deep) (spine s (node i k run ls done)) (spine s (node i k new_run (beside v (tail_of ls)) done))
+  pre-deepens deep v new_run h =
+      Deepens-ends deep (spine s (head_of ls)) (spine s v) (spine s (tail_of ls)) (spine s (node i k run ls done))
+      (spine s (node i k new_run (beside v (tail_of ls)) done)) o.spine_is
+      (spine-ends s i k p q new_run (beside v (tail_of ls)) o.shape ∙ ap (λ n. 1 + n) (spine-join s v (tail_of ls))) h
+
+  pub post-deepens : (deep : Option ℕ) (v : Trees) (new_run : List Elem) → Deepens deep (spine s (tail_of ls)) (spine s v)
+      → Deepens (deeper (Some 1) deep) (spine s (node i k run ls done)) (spine s (node i k new_run (beside (head_of ls) v) done))
+  post-deepens deep v new_run h =
+      let old : spine s (node i k run ls done) ≡ 1 + max (spine s (tail_of ls)) (spine s (head_of ls)) = let e = o.spine_is in omega arith in
+      let new : spine s (node i k new_run (beside (head_of ls) v) done) ≡ 1 + max (spine s (head_of ls)) (spine s v) =
+      spine-ends s i k p q new_run (beside (head_of ls) v) o.shape ∙ ap (λ n. 1 + n) (spine-join s (head_of ls) v) in
+      Deepens-ends deep (spine s (tail_of ls)) (spine s v) (spine s (head_of ls)) (spine s (node i k run ls done))
+      (spine s (node i k new_run (beside (head_of ls) v) done)) old (omega arith) h
 
   -- the least number of elements where the root hangs
   least-here : (m : ℕ) → k ≡ m → (whole s m).least ≤ 1

@@ -5,9 +5,11 @@ use Rattle.node_arena.specs.declared.kinds.NodeKind.{NodeKind}
 use Rattle.node_arena.specs.declared.kinds.Shape.TheVariants.{Ends}
 use Rattle.node_arena.specs.Trees.{Trees, done, absent, node, roots}
 use Rattle.node_arena.specs.Kinds.{shape_at, kind_at}
-use Rattle.node_arena.specs.Walks.{Part, item, link, parts, joined, walk, walks}
+use Rattle.node_arena.specs.Walks.{link, parts, joined, walk, walks}
 use Rattle.node_arena.specs.Conforming.{Hang, IsLevel, IsLevelAt, spine, spine_by, places, Place, whole, least_of}
+use Rattle.node_arena.proofs.PlacesLemmas.{hang-none}
 use Rattle.node_arena.proofs.RowsLemmas.{beside}
+use Rattle.node_arena.proofs.WalksLemmas.{joined-items, joined-links}
 
 -- the first tree of a row
 abbrev pub head_of : Trees → Trees
@@ -58,17 +60,6 @@ no-more (node i k run ls t) h = absurd (omega arith)
 no-nil : (p : Place) (ps : List Place) → p ∷ ps ≡ [] → ⊥
 no-nil p ps h = cc
 
--- the elements of a run come first
-pub joined-items : (run : List Elem) (ps : List (Part (List Elem))) → joined (map item run ++ ps) ≡ run ++ joined ps
-joined-items [] ps = refl
-joined-items (x ∷ xs) ps = ap (λ w. x ∷ w) (joined-items xs ps)
-
--- the walks of a row, one after another
-pub joined-links : (s : List NodeKind) (t : Trees) → joined (map link (walks s t)) ≡ walk s t
-joined-links s done = refl
-joined-links s (absent rest) = joined-links s rest
-joined-links s (node i k run ls rest) = ap (λ w. joined (parts (shape_at s k) run (walks s ls)) ++ w) (joined-links s rest)
-
 module _ (s : List NodeKind) where
   pub walk-two : (i k p q : ℕ) (run : List Elem) (u v : Trees) → shape_at s k ≡ Ends p q → One u
       → walk s (node i k run (beside u v) done) ≡ walk s u ++ (run ++ walk s v)
@@ -86,11 +77,6 @@ module _ (s : List NodeKind) where
       ∙ ap (λ z. w ++ z) (joined-items run (map link (walks s v)) ∙ ap (λ z. run ++ z) (joined-links s v))
       ∙ ap (λ z. z ++ (run ++ walk s v)) (sym (append-nil w)))
 
-  pub hang-none : (u : Trees) → Hang s [] u → u ≡ done
-  hang-none done h = refl
-  hang-none (absent rest) h = absurd h
-  hang-none (node i k run ls rest) h = absurd h
-
   pub hang-parts : (p : Place) (ps : List Place) (t : Trees) → Hang s (p ∷ ps) t → Hang s (p ∷ []) (head_of t) × Hang s ps (tail_of t)
   hang-parts p ps done h = absurd (no-nil p ps h)
   hang-parts p ps (absent t) h = ((h.0, refl), h.1)
@@ -99,14 +85,14 @@ module _ (s : List NodeKind) where
   pub hang-join : (p : Place) (ps : List Place) (u v : Trees) → Hang s (p ∷ []) u → Hang s ps v → Hang s (p ∷ ps) (beside u v)
   hang-join p ps done v h g = absurd (no-nil p [] h)
   hang-join p ps (absent u) v h g =
-      (h.0, subst (λ w. Hang s ps (beside w v)) (sym (hang-none u h.1)) g)
+      (h.0, subst (λ w. Hang s ps (beside w v)) (sym (hang-none s u h.1)) g)
   hang-join p ps (node i k run ls u) v h g =
-      (h.0, h.1, h.2, h.3, subst (λ w. Hang s ps (beside w v)) (sym (hang-none u h.4)) g)
+      (h.0, h.1, h.2, h.3, subst (λ w. Hang s ps (beside w v)) (sym (hang-none s u h.4)) g)
 
   pub hang-one : (p : Place) (t : Trees) → Hang s (p ∷ []) t → One t
   hang-one p done h = absurd (no-nil p [] h)
-  hang-one p (absent t) h = ap (λ u. suc (length (roots u))) (hang-none t h.1)
-  hang-one p (node i k run ls t) h = ap (λ u. suc (length (roots u))) (hang-none t h.4)
+  hang-one p (absent t) h = ap (λ u. suc (length (roots u))) (hang-none s t h.1)
+  hang-one p (node i k run ls t) h = ap (λ u. suc (length (roots u))) (hang-none s t h.4)
 
   pub level-join : (t u : Trees) → IsLevel s t → IsLevel s u → IsLevel s (beside t u)
   level-join done u h g = g

@@ -9,15 +9,9 @@ use Rattle.node_arena.specs.Insertions.{PutsIn, all_put_in}
 use Rattle.node_arena.specs.Kinds.{shape_at}
 use Rattle.node_arena.specs.Trees.{Trees, done, absent, node, stored, Stands, Avoids, IsApart, IsReachedOnce, KeepsOutside, TakesFree}
 use Rattle.node_arena.specs.Walks.{walk}
-use Rattle.node_arena.proofs.FramesLemmas.{Stands-changed, Stands-outside}
+use Rattle.node_arena.proofs.FramesLemmas.{Stands-changed, Stands-outside, IsApart-done}
 use Rattle.node_arena.proofs.RowsLemmas.{beside, beside-Stands, Stands-beside, beside-Avoids, Avoids-beside, beside-IsApart, IsApart-beside, beside-IsReachedOnce, IsReachedOnce-beside, IsApart-flip, IsApart-new}
 use Rattle.chunk_tree.proofs.Pairs.{level-join, level-parts, level-ends, spine-join, spine-ends}
-
--- nothing is apart from nothing
-pub IsApart-done : (t : Trees) → IsApart t done
-IsApart-done done = tt
-IsApart-done (absent rest) = IsApart-done rest
-IsApart-done (node i k run ls rest) = (tt, IsApart-done ls, IsApart-done rest)
 
 -- a tree and one more number
 abbrev pub with_number : ℕ → Trees → Trees

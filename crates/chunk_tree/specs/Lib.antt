@@ -3,4 +3,6 @@ pub mod Writes
 pub mod Descents
 pub mod Relinking
 pub mod Balancing
+pub mod Numbering
 pub mod Trials
+pub mod RowTrials

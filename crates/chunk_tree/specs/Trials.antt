@@ -1,5 +1,7 @@
 -- For the tests alone: no public clause cites this module.
-use Rattle.std.specs.Prelude.{◌≡◌, ◌≤◌, ◌<◌, ◌+◌, ℕ, suc, Bool, true, false, List, [], ◌∷◌, Some, slice_index_or}
+use Rattle.std.specs.Prelude.{◌≡◌, ◌≤◌, ◌<◌, ◌+◌, ℕ, suc, max, Bool, true, false, List, [], ◌∷◌, Some, None, slice_index_or}
+use Rattle.node_arena.specs.declared.elements.Step.{Step}
+use Rattle.node_arena.specs.declared.elements.Step.TheVariants.{Done, Pass}
 use Rattle.node_arena.specs.declared.elements.Structure.{Structure}
 use Rattle.node_arena.specs.declared.kinds.NodeKind.{NodeKind}
 use Rattle.node_arena.specs.declared.kinds.Shape.TheVariants.{Flat, Post, Ends, Woven}
@@ -25,6 +27,12 @@ pub record IsGrown (s : List NodeKind) (a : ArenaState) (st : Structure) (free :
   pub serves : Serves s a
   pub spare : more ≤ a.nodes.spare
   pub few : st.len + more < 4095
+
+-- the spine that is kept after an insertion: the depth that it told, where that is greater, and one more where it told none
+abbrev pub raised : ℕ → Step → ℕ
+raised n (Done None) = n + 1
+raised n (Done (Some d)) = max n d
+raised n (Pass i side xs above) = n + 1
 
 -- a node with this number stands, with all that is reached from it
 pub record IsRooted (a : ArenaState) (i : ℕ) : Type 0 where

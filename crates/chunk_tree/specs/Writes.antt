@@ -1,5 +1,5 @@
 -- What is written at the node at which the way of an element ends. No public clause cites this module.
-use Rattle.std.specs.Prelude.{◌≡◌, ◌≢◌, ◌≤◌, ◌<◌, ◌+◌, ◌/◌, ◌⊎◌, ℕ, true, false, List, [], ◌∷◌, ◌++◌, length, Option, Some, None}
+use Rattle.std.specs.Prelude.{◌≡◌, ◌≢◌, ◌≤◌, ◌<◌, ◌+◌, ◌/◌, ◌⊎◌, ℕ, true, false, List, [], ◌∷◌, ◌++◌, length, Option, Some, None, is_some}
 use Rattle.node_arena.specs.declared.elements.Elem.{Elem}
 use Rattle.node_arena.specs.declared.elements.Side.{Side}
 use Rattle.node_arena.specs.declared.elements.Side.TheVariants.{Pre, Post}
@@ -11,6 +11,7 @@ use Rattle.node_arena.specs.declared.kinds.Shape.TheVariants as shapes
 use Rattle.node_arena.specs.Arenas.{ArenaState, NodeState, node_at, ChangesNode}
 use Rattle.node_arena.specs.Insertions.{put_in}
 use Rattle.node_arena.specs.Kinds.{kind_at, shape_at}
+use Rattle.node_arena.specs.Passing.{wedge_depth}
 use Rattle.chunk_tree.specs.Ways.{link_of, kind_on, has_two_links}
 
 -- ---- before and behind a write
@@ -70,13 +71,15 @@ pub record Cuts (s : List NodeKind) (x : Elem) (a b : ArenaState) (i : ℕ) (n :
 abbrev pub Costs : ArenaState → ArenaState → ℕ → ℕ → ℕ → ℕ → Type 0
 Costs a b made written before now = Spends a b made × (now ≡ before + written)
 
--- x is in the run, or what it pushes out is in a new node, or is passed on
-abbrev pub Settles : List NodeKind → Elem → ArenaState → ArenaState → ℕ → NodeState → Step → ℕ → ℕ → Type 0
-Settles s x a b i n Done before now =
-    (Fits s x a b i n × Costs a b 0 1 before now)
-    ⊎ ((shape_at s (kind_on (shape_at s n.kind) Post) ≢ shapes.Woven) × ((j : ℕ) × Wedges s x a b i n j) × Costs a b 1 2 before now)
-Settles s x a b i n (Pass m side xs) before now =
+-- x is in the run, or what it pushes out is in a new node, or is passed on; so many nodes with two links are above
+abbrev pub Settles : List NodeKind → Elem → ArenaState → ArenaState → ℕ → NodeState → ℕ → Step → ℕ → ℕ → Type 0
+Settles s x a b i n above (Done deep) before now =
+    (Fits s x a b i n × Costs a b 0 1 before now × (deep ≡ Some 0))
+    ⊎ ((shape_at s (kind_on (shape_at s n.kind) Post) ≢ shapes.Woven) × ((j : ℕ) × Wedges s x a b i n j) × Costs a b 1 2 before now
+    × (deep ≡ wedge_depth (shape_at s (kind_on (shape_at s n.kind) Post)) (is_some (link_of n 1)) (above + 1)))
+Settles s x a b i n above (Pass m side xs over) before now =
     (m ≡ i) × (side ≡ Post) × (shape_at s (kind_on (shape_at s n.kind) Post) ≡ shapes.Woven) × Cuts s x a b i n xs.items × Costs a b 0 1 before now
+    × (over ≡ Some (above + 1))
 
 -- ---- beside the run
 
@@ -94,9 +97,11 @@ pub record Hangs (s : List NodeKind) (x : Elem) (a b : ArenaState) (i : ℕ) (n 
   pub makes : ChangesNode a between j (Some (record { kind = kind; run = x ∷ []; links = None ∷ None ∷ [] }))
   pub puts : ChangesNode between b i (Some (record n { links = with_link_on n side j }))
 
--- x is in a new node, or is passed on where nodes at this side haven't two links
-abbrev pub GoesBeside : List NodeKind → Elem → ArenaState → ArenaState → ℕ → NodeState → Side → Step → ℕ → ℕ → Type 0
-GoesBeside s x a b i n side Done before now =
+-- x is in a new node, or is passed on where nodes at this side haven't two links; so many nodes with two links are above
+abbrev pub GoesBeside : List NodeKind → Elem → ArenaState → ArenaState → ℕ → NodeState → Side → ℕ → Step → ℕ → ℕ → Type 0
+GoesBeside s x a b i n side above (Done deep) before now =
     (has_two_links (shape_at s (kind_on (shape_at s n.kind) side)) ≡ true) × ((j : ℕ) × Hangs s x a b i n side j) × Costs a b 1 2 before now
-GoesBeside s x a b i n side (Pass m to xs) before now =
+    × (deep ≡ Some (above + 2))
+GoesBeside s x a b i n side above (Pass m to xs over) before now =
     (m ≡ i) × (to ≡ side) × (has_two_links (shape_at s (kind_on (shape_at s n.kind) side)) ≡ false) × (b ≡ a) × (xs.items ≡ x ∷ []) × (now ≡ before)
+    × (over ≡ Some (above + 1))

@@ -83,7 +83,8 @@ pub(crate) fn taken(alloc: Global, free: &[bool]) -> Result<Vec<u32>, NoMemory> 
     Ok(taken)
 }
 
-/// The written tree, where it keeps the rules, its walk is what isn't free, and its spine is at most the one that is kept.
+/// The written tree, and behind it the spine that is kept, where the tree keeps the rules, its walk is what isn't free, and its spine is at most the
+/// kept one; and the kept one itself where runs have one element, so that no insertion pushes anything down.
 pub(crate) fn written(
     alloc: Global,
     arena: &Arena,
@@ -106,5 +107,9 @@ pub(crate) fn written(
     if spine.is_none() || walk.len() != top.len as usize || walk != taken(alloc, free)? {
         return Ok(None);
     }
+    if hi == 1 && spine != Some(u32::from(top.spine)) {
+        return Ok(None);
+    }
+    out.push(u32::from(top.spine))?;
     Ok(Some(out))
 }

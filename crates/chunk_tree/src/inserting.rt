@@ -1,21 +1,21 @@
 //! An element put into a tree of nodes with two links.
 ghost use Rattle.std.specs.Prelude.{◌≡◌, ◌<◌, ◌≤◌, ◌+◌, ℕ, IsSomeAnd, IfSome, length};
 ghost use Rattle.node_arena.specs.declared.kinds.Shape.TheVariants.{Ends};
+ghost use Rattle.node_arena.specs.declared.elements.TheConstants.{MOST_SPINE};
 ghost use Rattle.node_arena.specs.Arenas.{node_at};
 ghost use Rattle.node_arena.specs.Insertions.{DifferInFew};
 ghost use Rattle.node_arena.specs.Kinds.{kind_at, shape_at};
-ghost use Rattle.node_arena.specs.Passing.{CanPutIn, Leaves};
+ghost use Rattle.node_arena.specs.Passing.{CanPutIn, Leaves, IsTold};
 ghost use Rattle.node_arena.specs.Rules.{AreSound, Serves};
 ghost use Rattle.node_arena.specs.Trees.{Trees};
 ghost use Rattle.chunk_tree.specs.Ways.{HasTwoLinks};
 ghost use Rattle.chunk_tree.specs.Writes.{HasKindsRun, Spends, Hangs, Settles, GoesBeside};
 
-use crate::kinds::{has_two_links, is_woven, kind_of, kind_on};
+use crate::kinds::{has_two_links, kind_on};
 use crate::parting::{cut, wedge};
-use crate::runs::copied;
 use crate::searching::find;
 use dt_model::Steps;
-use node_arena::{Arena, Elem, NodeId, NodeKind, Side, Step};
+use node_arena::{Arena, Elem, NodeId, NodeKind, Side, Step, copied, is_woven, kind_of, wedged};
 use std::sync::ledger::Ledger;
 
 /// Puts the element into the node's run. If the run is full, its upper part goes into a new node behind it, or is passed on.
@@ -23,28 +23,33 @@ fn settle<L: Ledger>(
     kinds: &[NodeKind],
     arena: &mut Arena,
     here: NodeId,
+    above: u8,
     elem: Elem,
     steps: &mut Steps<L>,
 ) -> Step
     requires there { IsSomeAnd (node_at arena.old here) (HasKindsRun kinds.now arena.old) }
     requires spare { 0 < arena.old.nodes.spare }
-    ensures settles { IfSome (node_at arena.old here) (λ n. Settles kinds.now elem arena.old arena.new here n result steps.old steps.new) }
+    requires few { above < MOST_SPINE }
+    ensures settles { IfSome (node_at arena.old here) (λ n. Settles kinds.now elem arena.old arena.new here n above result steps.old steps.new) }
 {
     let hi = kind_of(kinds, arena.kind(here)).hi as usize;
     if arena.len(here) < hi {
         arena.insert(here, arena.place(here, elem.at), elem, None, steps);
-        return Step::Done;
+        return Step::Done { deep: Some(0) };
     }
-    if is_woven(kinds, kind_on(kinds, arena.kind(here), Side::Post)) {
+    let post = kind_on(kinds, arena.kind(here), Side::Post);
+    if is_woven(kinds, post) {
         let elems = cut(kinds, arena, here, elem, steps);
         return Step::Pass {
             node: here,
             side: Side::Post,
             elems,
+            above: Some(above + 1),
         };
     }
+    let behind = arena.link(here, 1).is_some();
     wedge(kinds, arena, here, elem, steps);
-    Step::Done
+    wedged(kinds, post, behind, above + 1)
 }
 
 /// Hangs a new node with two links, and the element alone, at a side of a node where nothing is. Two ticks.
@@ -77,22 +82,27 @@ fn put_beside<L: Ledger>(
     kinds: &[NodeKind],
     arena: &mut Arena,
     here: NodeId,
+    above: u8,
     side: Side,
     elem: Elem,
     steps: &mut Steps<L>,
 ) -> Step
     requires there { IsSomeAnd (node_at arena.old here) (HasKindsRun kinds.now arena.old) }
     requires spare { 0 < arena.old.nodes.spare }
-    ensures goes { IfSome (node_at arena.old here) (λ n. GoesBeside kinds.now elem arena.old arena.new here n side result steps.old steps.new) }
+    requires few { above < MOST_SPINE }
+    ensures goes { IfSome (node_at arena.old here) (λ n. GoesBeside kinds.now elem arena.old arena.new here n side above result steps.old steps.new) }
 {
     if has_two_links(kinds, kind_on(kinds, arena.kind(here), side)) {
         hang(kinds, arena, here, side, elem, steps);
-        return Step::Done;
+        return Step::Done {
+            deep: Some(above + 2),
+        };
     }
     Step::Pass {
         node: here,
         side,
         elems: copied(&[elem]),
+        above: Some(above + 1),
     }
 }
 
@@ -112,15 +122,16 @@ pub fn insert<L: Ledger>(
     requires two_links { IsSomeAnd (node_at arena.old node) (λ n. HasTwoLinks (shape_at kinds.now n.kind)) }
     requires spare { 0 < arena.old.nodes.spare }
     ensures left { (t : Trees) → CanPutIn kinds.now arena.old elem node t → Leaves kinds.now arena.old arena.new elem t result steps.old steps.new }
+    ensures told { IsTold arena.old arena.new result }
     ensures few { DifferInFew 2 arena.old arena.new }
     ensures spare { arena.old.nodes.spare ≤ arena.new.nodes.spare + 1 }
     ensures steps { steps.new ≤ steps.old + 2 }
     ensures runs { arena.new.runs ≡ arena.old.runs }
     ensures most { arena.new.nodes.most ≡ arena.old.nodes.most }
 {
-    let (here, way) = find(kinds, arena, node, &elem);
+    let (here, way, above) = find(kinds, arena, node, &elem);
     match way {
-        None => settle(kinds, arena, here, elem, steps),
-        Some(side) => put_beside(kinds, arena, here, side, elem, steps),
+        None => settle(kinds, arena, here, above, elem, steps),
+        Some(side) => put_beside(kinds, arena, here, above, side, elem, steps),
     }
 }

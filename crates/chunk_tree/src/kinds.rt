@@ -1,22 +1,9 @@
 //! Kinds by number.
-ghost use Rattle.std.specs.Prelude.{◌≡◌, ◌↔◌, IsTrue};
-ghost use Rattle.node_arena.specs.declared.kinds.Shape.TheVariants.{Woven};
-ghost use Rattle.node_arena.specs.Kinds.{kind_at, shape_at};
+ghost use Rattle.std.specs.Prelude.{◌≡◌};
+ghost use Rattle.node_arena.specs.Kinds.{shape_at};
 ghost use Rattle.chunk_tree.specs.Ways.{kind_on, has_two_links};
 
-use node_arena::{NodeKind, Shape, Side};
-
-/// The kind with this number; one without links where there is none.
-pub(crate) fn kind_of(kinds: &[NodeKind], kind: u32) -> NodeKind
-    ensures value { result ≡ kind_at kinds.now kind }
-{
-    let at = kind as usize;
-    if at < kinds.len() {
-        kinds[at]
-    } else {
-        NodeKind::default()
-    }
-}
+use node_arena::{NodeKind, Shape, Side, kind_of};
 
 /// The number of the kind at a side of nodes of a kind; 0 where they haven't two links.
 pub(crate) fn kind_on(kinds: &[NodeKind], kind: u32, side: Side) -> u32
@@ -37,16 +24,6 @@ pub(crate) fn has_two_links(kinds: &[NodeKind], kind: u32) -> bool
 {
     match kind_of(kinds, kind).shape {
         Shape::Ends { pre, post } => true,
-        _ => false,
-    }
-}
-
-/// Whether a kind is woven.
-pub(crate) fn is_woven(kinds: &[NodeKind], kind: u32) -> bool
-    ensures value { IsTrue result ↔ (shape_at kinds.now kind ≡ Woven) }
-{
-    match kind_of(kinds, kind).shape {
-        Shape::Woven => true,
         _ => false,
     }
 }

@@ -1,23 +1,25 @@
 //! Trees of nodes with two links: an element put in, and a tree made shallow.
 //!
 //! `insert` puts an element into the tree that begins at a node, or passes elements on to a structure of another discipline that hangs in it.
-//! `rebalance` links the nodes of a structure of one kind anew, so that it has few levels.
+//! `rebalance` makes a structure shallow: it links the nodes of one of a single kind anew, and builds others anew.
 //! Clauses see trees as `node_arena` has them. Read its `specs/Passing.antt` first, then `specs/Balancing.antt`.
 //! A node's first link leads to what comes before its run, its second to what comes behind. An insertion writes at most two nodes. The way to
 //! a place is a loop of at most `MOST_SPINE` turns.
-//! Not here: structures of other disciplines, and a structure of several kinds made shallow.
+//! Not here: how an element goes into structures of other disciplines.
 #![tactic(auto)]
 
 #[cfg(test)]
 mod checking;
-mod digits;
+mod collecting;
 mod gathering;
 mod inserting;
 mod kinds;
 mod linking;
+#[cfg(test)]
+mod mixed_tests;
+mod numbering;
 mod parting;
 mod rebalancing;
-mod runs;
 mod searching;
 #[cfg(test)]
 mod tests;

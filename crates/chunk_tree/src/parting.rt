@@ -4,11 +4,10 @@ ghost use Rattle.node_arena.specs.Arenas.{node_at};
 ghost use Rattle.node_arena.specs.Kinds.{kind_at, shape_at};
 ghost use Rattle.chunk_tree.specs.Writes.{HasKindsRun, Spends, IsParted, links_before, Wedges, Cuts};
 
-use crate::kinds::{kind_of, kind_on};
-use crate::runs::{copied, run_with};
+use crate::kinds::kind_on;
 use arrayvec::ArrayVec;
 use dt_model::Steps;
-use node_arena::{Arena, Elem, NodeId, NodeKind, Shape, Side};
+use node_arena::{Arena, Elem, NodeId, NodeKind, Shape, Side, copied, kind_of};
 use std::sync::ledger::Ledger;
 
 /// The links of a new node of a kind, before an old structure.
@@ -42,8 +41,9 @@ fn parted(
     ensures parts { IfSome (node_at arena.now here) (λ n. IsParted kinds.now elem n result.0.items result.1.items) }
     ensures few { (length result.0.items ≤ arena.now.nodes.most) × (length result.1.items ≤ arena.now.nodes.most) }
 {
-    let run = run_with(arena, here, elem);
-    let keep = kept(kinds, arena.kind(here));
+    let full = arena.view(here);
+    let run = full.run_with(&elem);
+    let keep = kept(kinds, full.kind());
     let (lower, upper) = run.as_slice().split_at(keep);
     (copied(lower), copied(upper))
 }

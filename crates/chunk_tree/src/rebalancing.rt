@@ -1,17 +1,22 @@
 //! A structure made shallow.
-ghost use Rattle.std.specs.Prelude.{◌≡◌, ◌≤◌, ◌+◌, IfOk, OnErr};
-ghost use Rattle.node_arena.specs.declared.kinds.Shape.TheVariants.{Ends};
+ghost use Rattle.std.specs.Prelude.{◌≡◌, ◌≢◌, ◌≤◌, ◌+◌, ◌<◌, ◌↔◌, ℕ, Ok, IfOk, OnErr, IsTrue, length, true, false};
+ghost use Rattle.node_arena.specs.declared.kinds.Shape.TheVariants.{Flat, Ends};
+ghost use Rattle.node_arena.specs.Arenas.{run_at};
+ghost use Rattle.node_arena.specs.Conforming.{spine_by};
 ghost use Rattle.node_arena.specs.Kinds.{shape_at};
 ghost use Rattle.node_arena.specs.Rules.{AreSound, Serves};
 ghost use Rattle.node_arena.specs.Structures.{Tree};
-ghost use Rattle.chunk_tree.specs.Balancing.{Holds, IsRebalanced};
+ghost use Rattle.bulk_build.specs.Building.{IsAsBefore};
+ghost use Rattle.chunk_tree.specs.Balancing.{Holds, IsShallow, IsRebalanced, IsRelinked};
 ghost use Rattle.chunk_tree.specs.Relinking.{root_at, top_at};
 
-use crate::digits::digits;
+use crate::collecting::elements;
 use crate::gathering::gather;
 use crate::linking::link_up;
+use crate::numbering::{free_all, numbers};
+use bulk_build::build;
 use dt_model::{NoMemory, Steps};
-use node_arena::{Arena, MOST_SPINE, NodeId, NodeKind, Structure, Top};
+use node_arena::{Arena, MOST_SPINE, NodeId, NodeKind, Shape, Structure, Top, digits, kind_of};
 use std::alloc::Global;
 use std::sync::ledger::Ledger;
 
@@ -35,9 +40,39 @@ fn top_at(root: Option<NodeId>) -> Top
     }
 }
 
-/// Links the nodes of a structure anew, whose nodes are all of one kind with two links, so that it has few levels. No run is changed, no node is
-/// made, and one tick is counted for each node. When out of memory all is as before.
-pub fn rebalance<L: Ledger>(
+/// Whether the nodes of a kind have two links, and both lead to that kind.
+fn leads_home(kinds: &[NodeKind], kind: u32) -> bool
+    ensures value { IsTrue result ↔ (shape_at kinds.now kind ≡ Ends kind kind) }
+{
+    match kind_of(kinds, kind).shape {
+        Shape::Ends { pre, post } => pre == kind && post == kind,
+        _ => false,
+    }
+}
+
+/// Whether a structure of a kind may have nodes with two links: not where it is flat or woven.
+fn may_be_deep(kinds: &[NodeKind], kind: u32) -> bool
+    ensures linked { result ≡ true → shape_at kinds.now kind ≢ Flat }
+    ensures level { result ≡ false → (n : ℕ) → spine_by (shape_at kinds.now kind) n ≡ 0 }
+{
+    match kind_of(kinds, kind).shape {
+        Shape::Flat => false,
+        Shape::Post(_) => true,
+        Shape::Ends { .. } => true,
+        Shape::Woven => false,
+    }
+}
+
+/// Whether the spine that is kept is low enough.
+fn is_shallow(top: &Structure) -> bool
+    ensures value { IsTrue result ↔ IsShallow top.now }
+    ensures few { result ≡ true → top.now.spine ≤ 32 }
+{
+    top.spine <= digits(top.len)
+}
+
+/// Links the nodes of a structure anew, whose nodes are all of one kind with two links.
+fn relink<L: Ledger>(
     kinds: &[NodeKind],
     kind: u32,
     top: Structure,
@@ -51,8 +86,7 @@ pub fn rebalance<L: Ledger>(
     requires holds { (t : Tree) × Holds kinds.now kind arena.old top t }
     ensures ok { IfOk result (λ new. (t : Tree) → Holds kinds.now kind arena.old top t → IsRebalanced kinds.now kind arena.old arena.new top t new) }
     ensures err { OnErr result (arena.new ≡ arena.old) }
-    ensures spare { arena.new.nodes.spare ≡ arena.old.nodes.spare }
-    ensures runs { arena.new.runs ≡ arena.old.runs }
+    ensures rest { IsRelinked arena.old arena.new }
     ensures most { arena.new.nodes.most ≡ arena.old.nodes.most }
     ensures steps { steps.new ≤ steps.old + top.len }
 {
@@ -64,4 +98,66 @@ pub fn rebalance<L: Ledger>(
         len: top.len,
         spine: digits(top.len),
     })
+}
+
+/// Builds a structure of nodes anew of its elements, and frees its old nodes. All memory is taken before the first node is made.
+fn renew<L: Ledger>(
+    kinds: &[NodeKind],
+    kind: u32,
+    top: &Structure,
+    arena: &mut Arena,
+    alloc: Global,
+    steps: &mut Steps<L>,
+) -> Result<Structure, NoMemory>
+    requires sound { AreSound kinds.now }
+    requires serves { Serves kinds.now arena.old }
+    requires linked { shape_at kinds.now kind ≢ Flat }
+    requires holds { (t : Tree) × Holds kinds.now kind arena.old top.now t }
+    ensures ok { IfOk result (λ new. (t : Tree) → Holds kinds.now kind arena.old top.now t → IsRebalanced kinds.now kind arena.old arena.new top.now t new) }
+    ensures err { OnErr result (IsAsBefore arena.old arena.new) }
+    ensures runs { (i : ℕ) → run_at arena.new i ≡ run_at arena.old i }
+    ensures most { arena.new.nodes.most ≡ arena.old.nodes.most }
+    ensures steps { steps.new ≤ steps.old + top.now.len }
+{
+    let elems = elements(kinds, arena, top, alloc)?;
+    let ids = numbers(arena, root_at(top.top), top.len, alloc)?;
+    let new = build(kinds, kind, elems.as_slice(), arena, steps)?;
+    free_all(arena, ids.as_slice());
+    Ok(new)
+}
+
+/// Makes a structure shallow: its elements stay, and its spine is at most the binary digits of their number. Where its nodes are all of one kind with
+/// two links, they are linked anew, and no node is made. Else, where the spine that is kept isn't low already, the structure is built anew, and its
+/// old nodes are freed: for a while there is memory for both, and for a list of the elements. At most a tick is counted for each element. When out of
+/// memory, all nodes and runs are as before. As many more nodes as before can be made without memory only where no node is made here.
+pub fn rebalance<L: Ledger>(
+    kinds: &[NodeKind],
+    kind: u32,
+    top: Structure,
+    arena: &mut Arena,
+    alloc: Global,
+    steps: &mut Steps<L>,
+) -> Result<Structure, NoMemory>
+    requires sound { AreSound kinds.now }
+    requires serves { Serves kinds.now arena.old }
+    requires holds { (t : Tree) × Holds kinds.now kind arena.old top t }
+    ensures ok { IfOk result (λ new. (t : Tree) → Holds kinds.now kind arena.old top t → IsRebalanced kinds.now kind arena.old arena.new top t new) }
+    ensures err { OnErr result (IsAsBefore arena.old arena.new) }
+    ensures relinked { shape_at kinds.now kind ≡ Ends kind kind → IsRelinked arena.old arena.new }
+    ensures relinked_err { shape_at kinds.now kind ≡ Ends kind kind → OnErr result (arena.new ≡ arena.old) }
+    ensures shallow { shape_at kinds.now kind ≢ Ends kind kind → IsShallow top → (arena.new ≡ arena.old) × (result ≡ Ok top) }
+    ensures runs { (i : ℕ) → run_at arena.new i ≡ run_at arena.old i }
+    ensures most { arena.new.nodes.most ≡ arena.old.nodes.most }
+    ensures steps { steps.new ≤ steps.old + top.len }
+{
+    if leads_home(kinds, kind) {
+        return relink(kinds, kind, top, arena, alloc, steps);
+    }
+    if is_shallow(&top) {
+        return Ok(top);
+    }
+    if !may_be_deep(kinds, kind) {
+        return Ok(Structure { spine: 0, ..top });
+    }
+    renew(kinds, kind, &top, arena, alloc, steps)
 }

@@ -3,7 +3,7 @@ ghost use Rattle.std.specs.Prelude.{◌≡◌, ◌≢◌, ◌+◌, ◌-◌, ◌<
 ghost use Rattle.node_arena.specs.Arenas.{node_at};
 ghost use Rattle.node_arena.specs.declared.kinds.Shape.TheVariants as shapes;
 ghost use Rattle.chunk_tree.specs.Relinking.{root_at};
-ghost use Rattle.chunk_tree.specs.Trials.{IsChunks, IsGrown, IsRooted, mixed_kinds};
+ghost use Rattle.chunk_tree.specs.Trials.{IsChunks, IsGrown, IsRooted, mixed_kinds, raised};
 
 use crate::checking::{CLOSE, MOST, OPEN, write_run, written};
 use crate::rebalancing::root_at;
@@ -29,7 +29,7 @@ fn chunks(hi: u32) -> [NodeKind; 1]
 }
 
 /// An element at this coordinate.
-fn elem(at: u32) -> Elem
+pub(crate) fn elem(at: u32) -> Elem
     ensures at { result.at ≡ at }
 {
     Elem {
@@ -64,6 +64,17 @@ fn first<L: Ledger>(
     }
 }
 
+/// The spine that is kept after an insertion: the depth that it told, where that is greater, and one more where it told none.
+fn raised(spine: u8, step: &Step) -> u8
+    requires low { spine ≤ 95 }
+    ensures value { result ≡ raised spine step.now }
+{
+    match step {
+        Step::Done { deep: Some(depth) } => spine.max(*depth),
+        _ => spine + 1,
+    }
+}
+
 /// The structure with one element more, whose coordinate isn't free then.
 fn next<L: Ledger>(
     kinds: &[NodeKind],
@@ -85,11 +96,11 @@ fn next<L: Ledger>(
     ensures grown { IsGrown kinds.now arena.new result free.new (more - 1) }
 {
     free[at as usize] = false;
-    insert(kinds, root, arena, elem(at), steps);
+    let step = insert(kinds, root, arena, elem(at), steps);
     Structure {
         top: Top::Node(root),
         len: top.len + 1,
-        spine: top.spine + 1,
+        spine: raised(top.spine, &step),
     }
 }
 
@@ -267,8 +278,8 @@ fn mixed() -> [NodeKind; 3]
     ]
 }
 
-/// What is passed on where a coordinate goes into a node of kind K with the coordinates 5 and 9: 1 before the run or 2 behind it, the coordinates
-/// that go there, and those that stay. Nothing where the answer is `Done`.
+/// What is passed on where a coordinate goes into a node of kind K with the coordinates 5 and 9: 1 before the run or 2 behind it, how many nodes with
+/// two links are above, the coordinates that go there, and those that stay. Nothing where the answer is `Done`.
 fn passed<L: Ledger>(alloc: Global, blank: Blank, at: u32) -> Result<Vec<u32>, NoMemory>
     requires name { blank.name ≡ L.name }
     requires parts { blank.parts ≡ L.parts }
@@ -283,9 +294,15 @@ fn passed<L: Ledger>(alloc: Global, blank: Blank, at: u32) -> Result<Vec<u32>, N
     let root = arena.make(0, &[elem(5), elem(9)], &[None, None], &mut steps);
     let mut out = Vec::new(alloc);
     match insert(&kinds, root, &mut arena, elem(at), &mut steps) {
-        Step::Done => {}
-        Step::Pass { node, side, elems } => {
+        Step::Done { .. } => {}
+        Step::Pass {
+            node,
+            side,
+            elems,
+            above,
+        } => {
             out.push(if side == Side::Pre { 1 } else { 2 })?;
+            out.push(above.map_or(0, u32::from))?;
             for elem in elems.as_slice() {
                 out.push(elem.at)?;
             }
@@ -305,7 +322,7 @@ fn is_written(tree: Option<Vec<u32>>, wanted: &[u32]) -> bool {
 }
 
 /// How many nodes lie below one another in a written tree; 0 where none was written.
-fn depth_of(tree: Option<Vec<u32>>) -> u32 {
+pub(crate) fn depth_of(tree: Option<Vec<u32>>) -> u32 {
     let written = match tree {
         Some(written) => written,
         None => return 0,
@@ -326,11 +343,11 @@ fn depth_of(tree: Option<Vec<u32>>) -> u32 {
 #[test]
 fn a_full_run_keeps_its_lower_part(rt: HostRuntime) -> Result<(), Fail> {
     let two = tree(rt.alloc(), 2, &[2, 4], 1, false)?;
-    assert!(rt; is_written(two, &[OPEN, 2, 4, CLOSE]));
+    assert!(rt; is_written(two, &[OPEN, 2, 4, CLOSE, 1]));
     let three = tree(rt.alloc(), 2, &[2, 4, 3], 1, false)?;
-    assert!(rt; is_written(three, &[OPEN, 2, 3, OPEN, 4, CLOSE, CLOSE]));
+    assert!(rt; is_written(three, &[OPEN, 2, 3, OPEN, 4, CLOSE, CLOSE, 2]));
     let four = tree(rt.alloc(), 2, &[2, 4, 3, 1], 1, false)?;
-    let wanted = [OPEN, OPEN, 1, CLOSE, 2, 3, OPEN, 4, CLOSE, CLOSE];
+    let wanted = [OPEN, OPEN, 1, CLOSE, 2, 3, OPEN, 4, CLOSE, CLOSE, 2];
     assert!(rt; is_written(four, &wanted));
     Ok(())
 }
@@ -338,9 +355,9 @@ fn a_full_run_keeps_its_lower_part(rt: HostRuntime) -> Result<(), Fail> {
 #[test]
 fn an_element_beside_a_run_with_room_goes_into_it(rt: HostRuntime) -> Result<(), Fail> {
     let below = tree(rt.alloc(), 3, &[5, 3, 1], 1, false)?;
-    assert!(rt; is_written(below, &[OPEN, 1, 3, 5, CLOSE]));
+    assert!(rt; is_written(below, &[OPEN, 1, 3, 5, CLOSE, 1]));
     let beside = tree(rt.alloc(), 3, &[5, 3, 4, 7, 6, 8], 1, false)?;
-    let wanted = [OPEN, 3, 4, 5, OPEN, 6, 7, 8, CLOSE, CLOSE];
+    let wanted = [OPEN, 3, 4, 5, OPEN, 6, 7, 8, CLOSE, CLOSE, 2];
     assert!(rt; is_written(beside, &wanted));
     Ok(())
 }
@@ -348,15 +365,31 @@ fn an_element_beside_a_run_with_room_goes_into_it(rt: HostRuntime) -> Result<(),
 #[test]
 fn a_row_of_nodes_becomes_shallow(rt: HostRuntime) -> Result<(), Fail> {
     let empty = tree(rt.alloc(), 1, &[], 1, true)?;
-    assert!(rt; is_written(empty, &[]));
+    assert!(rt; is_written(empty, &[0]));
     let row = tree(rt.alloc(), 1, &[1, 2, 3], 1, false)?;
-    let deep = [OPEN, 1, OPEN, 2, OPEN, 3, CLOSE, CLOSE, CLOSE];
+    let deep = [OPEN, 1, OPEN, 2, OPEN, 3, CLOSE, CLOSE, CLOSE, 3];
     assert!(rt; is_written(row, &deep));
     let three = tree(rt.alloc(), 1, &[1, 2, 3], 1, true)?;
-    let even = [OPEN, OPEN, 1, CLOSE, 2, OPEN, 3, CLOSE, CLOSE];
+    let even = [OPEN, OPEN, 1, CLOSE, 2, OPEN, 3, CLOSE, CLOSE, 2];
     assert!(rt; is_written(three, &even));
     let balanced = tree(rt.alloc(), 1, &[2, 1, 3], 1, true)?;
     assert!(rt; is_written(balanced, &even));
+    Ok(())
+}
+
+#[test]
+fn the_kept_spine_is_raised_by_the_depths_that_are_told(rt: HostRuntime) -> Result<(), Fail> {
+    let even = tree(rt.alloc(), 1, &[4, 2, 6, 1, 3, 5, 7], 1, false)?;
+    let wanted = [
+        OPEN, OPEN, OPEN, 1, CLOSE, 2, OPEN, 3, CLOSE, CLOSE, 4, OPEN, OPEN, 5, CLOSE, 6, OPEN, 7,
+        CLOSE, CLOSE, CLOSE, 3,
+    ];
+    assert!(rt; is_written(even, &wanted));
+    let pushed = tree(rt.alloc(), 2, &[20, 40, 30, 10, 25], 1, false)?;
+    let wanted = [
+        OPEN, OPEN, 10, CLOSE, 20, 25, OPEN, 30, OPEN, 40, CLOSE, CLOSE, CLOSE, 3,
+    ];
+    assert!(rt; is_written(pushed, &wanted));
     Ok(())
 }
 
@@ -389,11 +422,11 @@ fn passed_on(alloc: Global, at: u32) -> Result<Vec<u32>, NoMemory>
 #[test]
 fn elements_are_passed_on_to_links_of_other_disciplines(rt: HostRuntime) -> Result<(), Fail> {
     let before = passed_on(rt.alloc(), 3)?;
-    assert!(rt; before.as_slice() == [1, 3, CLOSE, 5, 9].as_slice());
+    assert!(rt; before.as_slice() == [1, 1, 3, CLOSE, 5, 9].as_slice());
     let behind = passed_on(rt.alloc(), 11)?;
-    assert!(rt; behind.as_slice() == [2, 11, CLOSE, 5, 9].as_slice());
+    assert!(rt; behind.as_slice() == [2, 1, 11, CLOSE, 5, 9].as_slice());
     let between = passed_on(rt.alloc(), 7)?;
-    assert!(rt; between.as_slice() == [2, 9, CLOSE, 5, 7].as_slice());
+    assert!(rt; between.as_slice() == [2, 1, 9, CLOSE, 5, 7].as_slice());
     Ok(())
 }
 

@@ -4,8 +4,8 @@ ghost use Rattle.node_arena.specs.Arenas.{node_at};
 ghost use Rattle.node_arena.specs.Kinds.{kind_at, shape_at};
 ghost use Rattle.chunk_tree.specs.Ways.{first_of, last_of, place_of, link_of, Takes, next_on};
 
-use crate::kinds::{has_two_links, kind_of, kind_on};
-use node_arena::{Arena, NodeId, NodeKind, Side};
+use crate::kinds::{has_two_links, kind_on};
+use node_arena::{Arena, NodeId, NodeKind, Side, kind_of};
 
 /// The coordinate of a node's first element; 0 where it has none.
 fn first_at(arena: &Arena, here: NodeId) -> u32

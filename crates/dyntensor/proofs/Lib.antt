@@ -5,6 +5,10 @@ pub mod Bindings
 pub mod SchemasTaken
 pub mod WorkloadLemmas
 pub mod ReadingsLemmas
+pub mod AddingLemmas
+pub mod ScriptsRead
+pub mod DraftLemmas
+pub mod Sharing
 pub mod NumberedLemmas
 pub mod OutcomeRows
 pub mod RunLemmas

@@ -1,6 +1,6 @@
 -- Readings of files that go on, and that stop.
-use Rattle.std.proofs.Common.{inl, inr, true, false, arith, ◌≡◌, ℕ, ◌+◌, ◌<◌, ◌≤◌, List, [], length, take, drop, refl, ap, sym, ◌∙◌, subst, Option, Some, None, Result, Ok, Err}
-use Rattle.std.specs.Prelude.{slice_get, IfSome, nat_le}
+use Rattle.std.proofs.Common.{inl, true, false, arith, ◌≡◌, ℕ, ◌<◌, ◌≤◌, List, [], length, refl, ap, sym, ◌∙◌, subst, Option, Some, None, Result, Ok, Err}
+use Rattle.std.specs.Prelude.{IfSome, nat_le}
 use Rattle.std.proofs.lemmas.Bool.Decides.{nat_tests}
 use Rattle.dt_model.specs.declared.limits.TheConstants.{FILE_LIMIT}
 use Rattle.dt_outside.specs.Faults.{ShelfState, HasRisen}
@@ -12,12 +12,12 @@ use Rattle.script_read.specs.Sound.{IsSoundItem}
 use Rattle.dyntensor.specs.declared.faults.Fault.{Fault}
 use Rattle.dyntensor.specs.declared.stops.Stop.{Stop}
 use Rattle.dyntensor.specs.declared.stops.Stop.TheVariants.{Refused, Unfetched, NoMemory}
-use Rattle.dyntensor.specs.Reached.{file_of, IsReached}
+use Rattle.dyntensor.specs.Reached.{IsReached}
 use Rattle.dyntensor.specs.Workload.{Files, too_large, text_in, Gathered, Work, nothing, work_of, with_item, with_items, items_in, workload}
 use Rattle.dyntensor.specs.Readings.{IsFaultStop, HoldsOf, IsQuiet, HasFailed, IsFileStop, IsStop}
 use Rattle.dyntensor.specs.Gathering.{IsGatheredFrom}
 use Rattle.dyntensor.proofs.Bindings.{bind-of, bind-Err}
-use Rattle.dyntensor.proofs.WorkloadLemmas.{with_items-take, with_items-fault, split_at, IsGatheredFrom-item}
+use Rattle.dyntensor.proofs.WorkloadLemmas.{IsGatheredFrom-item}
 
 -- ---- files
 
@@ -142,54 +142,12 @@ text_fault o file text f fault h e = IfSome-HoldsOf o (λ files. (text_in files 
 
 -- ---- the items of a manifest
 
--- one item more
-pub items_more : (o : Option Files) (manifest : List ℕ) (items : List (ℕ × Item)) (i : ℕ) (p : ℕ × Item) (g new : Gathered) → slice_get items i ≡ Some p
-    → IfSome o (λ files. with_items files manifest nothing (take i items) ≡ Ok g) → HoldsOf o (λ files. with_item files manifest g p.0 p.1 ≡ Ok new)
-    → IfSome o (λ files. with_items files manifest nothing (take (i + 1) items) ≡ Ok new)
-items_more None manifest items i p g new at before here = tt
-items_more (Some files) manifest items i p g new at before here = with_items-take files manifest nothing g new items i p at before here
-
 -- what was gathered with one item more
 pub gathered_more : (o : Option Files) (d : Declared) (manifest : List ℕ) (line : ℕ) (item : Item) (g new : Gathered) → IsGatheredFrom d g → IsSoundItem d item
     → HoldsOf o (λ files. with_item files manifest g line item ≡ Ok new) → IsGatheredFrom (declared_with d item) new
 gathered_more o d manifest line item g new h s here =
     HoldsOf-any o (λ files. with_item files manifest g line item ≡ Ok new) (IsGatheredFrom (declared_with d item) new)
     (λ files e. IsGatheredFrom-item d g new files manifest line item h s e) here
-
-reached_at : (o : Option Files) (manifest file : List ℕ) (items : List (ℕ × Item)) (i : ℕ) (p : ℕ × Item) (g : Gathered) → slice_get items i ≡ Some p
-    → file_of p.1 ≡ Some file
-    → HoldsOf o (λ files. items_in files manifest ≡ Ok items) → IfSome o (λ files. with_items files manifest nothing (take i items) ≡ Ok g)
-    → IfSome o (λ files. IsReached files manifest file)
-reached_at None manifest file items i p g at named all before = tt
-reached_at (Some files) manifest file items i p g at named all before = inr (record {
-  before = take i items;
-  item = p;
-  behind = drop (i + 1) items;
-  items = all ∙ ap Ok (split_at items i p at);
-  named = named;
-  gathered = g;
-  sound = before;
-})
-
-refused_at : (o : Option Files) (manifest : List ℕ) (items : List (ℕ × Item)) (i : ℕ) (p : ℕ × Item) (g : Gathered) (fault : Fault) → slice_get items i ≡ Some p
-    → IfSome o (λ files. with_items files manifest nothing (take i items) ≡ Ok g) → IfSome o (λ files. with_item files manifest g p.0 p.1 ≡ Err fault)
-    → IfSome o (λ files. with_items files manifest nothing items ≡ Err fault)
-refused_at o manifest items i p g fault at before here =
-    IfSome-both o (λ files. with_items files manifest nothing (take i items) ≡ Ok g) (λ files. with_item files manifest g p.0 p.1 ≡ Err fault)
-    (λ files. with_items files manifest nothing items ≡ Err fault) (λ files b h. with_items-fault files manifest nothing g items i p fault at b h) before here
-
--- an item's stop is that of all
-pub items_stop : (old mid new : ShelfState) (manifest : List ℕ) (items : List (ℕ × Item)) (i : ℕ) (p : ℕ × Item) (g : Gathered) (stop : Stop)
-    → slice_get items i ≡ Some p
-    → IsQuiet old mid → HoldsOf old.files (λ files. items_in files manifest ≡ Ok items)
-    → IfSome old.files (λ files. with_items files manifest nothing (take i items) ≡ Ok g)
-    → IsFileStop mid new (file_of p.1) (λ files. with_item files manifest g p.0 p.1) stop
-    → IsStop old new manifest (λ files. with_items files manifest nothing items) stop
-items_stop old mid new manifest items i p g (Refused fault) at quiet all before h =
-    refused_at old.files manifest items i p g fault at before (subst (λ o. IfSome o (λ files. with_item files manifest g p.0 p.1 ≡ Err fault)) quiet.files h)
-items_stop old mid new manifest items i p g (Unfetched file) at quiet all before h =
-    (HasFailed-after old mid new file quiet h.1, reached_at old.files manifest file items i p g at h.0 all before)
-items_stop old mid new manifest items i p g NoMemory at quiet all before h = tt
 
 -- ---- the workload
 

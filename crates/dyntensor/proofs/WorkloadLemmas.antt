@@ -1,6 +1,6 @@
 -- What the items of a manifest add, one after the other.
-use Rattle.std.proofs.Common.{◌≡◌, ℕ, zero, suc, ◌+◌, ◌<◌, List, [], ◌∷◌, ◌++◌, length, take, drop, refl, ap, sym, ◌∙◌, arith, subst, get_or, Some, Result, Ok, Err}
-use Rattle.std.specs.Prelude.{slice_get, fold, nat_le}
+use Rattle.std.proofs.Common.{◌≡◌, ℕ, zero, suc, ◌+◌, List, [], ◌∷◌, ◌++◌, length, take, refl, ap, ◌∙◌, arith, subst, Some, Result, Ok, Err}
+use Rattle.std.specs.Prelude.{slice_get, nat_le}
 use Rattle.std.specs.List.{list_all}
 use Rattle.std.proofs.lemmas.Option.{none-some}
 use Rattle.dt_model.specs.declared.limits.TheConstants.{FILE_LIMIT}
@@ -12,29 +12,32 @@ use Rattle.tns_io.specs.Tns.{tns_of}
 use Rattle.script_read.specs.declared.declarations.Declared.{Declared}
 use Rattle.script_read.specs.declared.items.Item.{Item}
 use Rattle.script_read.specs.declared.items.Item.TheVariants.{Schema, Tensor, Load, Session, Print}
-use Rattle.script_read.specs.Manifests.{declared_with, manifest_of}
-use Rattle.script_read.specs.Manifests.{nothing as nothing_declared}
+use Rattle.script_read.specs.Manifests.{declared_with}
 use Rattle.script_read.specs.Readings.{◌>>=◌, check}
 use Rattle.script_read.specs.Scripts.{script_of}
-use Rattle.script_read.specs.Sound.{IsSoundItem, AreSound}
-use Rattle.script_read.proofs.ManifestsLemmas.{AreSound-manifest_of}
+use Rattle.script_read.specs.Sound.{IsSoundItem}
 use Rattle.script_read.proofs.ReadingsLemmas.{check-Ok, Ok-same}
 use Rattle.dyntensor.specs.declared.faults.Fault.{Fault}
-use Rattle.dyntensor.specs.Workload.{Files, fault_in, located, too_large, text_in, Gathered, decls_of, lines_left, with_tensor, with_lines, with_script, with_print, is_flat, is_schema, all_taken, schemas_of, with_item, with_items, items_in}
+use Rattle.dyntensor.specs.Workload.{Files, fault_in, located, too_large, text_in, Gathered, decls_of, lines_left, with_tensor, with_lines, with_script, with_print, with_text, is_flat, is_schema, all_taken, schemas_of, with_item, with_items}
 use Rattle.dyntensor.specs.Gathering.{IsGatheredFrom}
-use Rattle.dyntensor.proofs.Bindings.{bind-Ok, bind-of, bind-Err, located-Ok}
+use Rattle.dyntensor.proofs.Bindings.{bind-Ok, located-Ok}
 use Rattle.dyntensor.proofs.SchemasTaken.{IsGatheredFrom-taken, schemas_of-small}
 use Rattle.dyntensor.proofs.GatheringLemmas.{IsGatheredFrom-tensor, IsGatheredFrom-lines, IsGatheredFrom-script, IsGatheredFrom-print, number_is_declared}
 use Rattle.tns_io.proofs.ReadPairs.{length-tns_of, tns_of-in_range}
 use Rattle.script_read.proofs.ScriptsLemmas.{IsSoundScript-script_of}
 
--- an element at its index
-pub slice_get-of : {X : Type 0} (xs : List X) (i : ℕ) (x : X) → i < length xs → x ≡ get_or xs i x → slice_get xs i ≡ Some x
-slice_get-of [] i x l e = absurd (omega arith)
-slice_get-of (y ∷ ys) zero x l e = ap Some (sym e)
-slice_get-of (y ∷ ys) (suc i) x l e = slice_get-of ys i x (omega arith) e
-
 -- ---- an item more
+
+-- what was gathered with the script of a text more, where it has no fault
+pub IsGatheredFrom-text : (d : Declared) (g new : Gathered) (file text : List ℕ) → IsGatheredFrom d g → IsSoundItem d (Session file)
+    → with_text g file text ≡ Ok new → IsGatheredFrom (declared_with d (Session file)) new
+IsGatheredFrom-text d g new file text h s e =
+    let b = check-Ok (nat_le (g.script_bytes + length text) FILE_LIMIT) (too_large file)
+    (λ _. located file (script_of (decls_of g) (lines_left g) text) >>= (λ script. Ok (with_script g (length text) script))) new e in
+    let c = bind-Ok (located file (script_of (decls_of g) (lines_left g) text)) (λ script. Ok (with_script g (length text) script)) new b.1 in
+    let read = located-Ok file (script_of (decls_of g) (lines_left g) text) c.0 c.1 in
+    subst (IsGatheredFrom (declared_with d (Session file))) (Ok-same {E = Fault} (with_script g (length text) c.0) new c.2)
+    (IsGatheredFrom-script d g file (length text) c.0 h s (IsSoundScript-script_of (decls_of g) (lines_left g) text c.0 read))
 
 -- what was gathered with an item more, where it has no fault
 pub IsGatheredFrom-item : (d : Declared) (g new : Gathered) (files : Files) (manifest : List ℕ) (line : ℕ) (item : Item) → IsGatheredFrom d g
@@ -60,41 +63,13 @@ IsGatheredFrom-item d g new files manifest line (Load name file) h s e =
     (IsGatheredFrom-lines d g t b.0 h (number_is_declared d g name h s.asked.declared) (length-tns_of (dims_of (decls_of g) t) (lines_left g) a.0 b.0 read)
     (tns_of-in_range (dims_of (decls_of g) t) (lines_left g) a.0 b.0 read))
 IsGatheredFrom-item d g new files manifest line (Session file) h s e =
-    let a = bind-Ok (text_in files file) (λ text. check (nat_le (g.script_bytes + length text) FILE_LIMIT) (too_large file) >>= (λ _.
-    located file (script_of (decls_of g) (lines_left g) text) >>= (λ script. Ok (with_script g (length text) script)))) new e in
-    let b = check-Ok (nat_le (g.script_bytes + length a.0) FILE_LIMIT) (too_large file)
-    (λ _. located file (script_of (decls_of g) (lines_left g) a.0) >>= (λ script. Ok (with_script g (length a.0) script))) new a.2 in
-    let c = bind-Ok (located file (script_of (decls_of g) (lines_left g) a.0)) (λ script. Ok (with_script g (length a.0) script)) new b.1 in
-    let read = located-Ok file (script_of (decls_of g) (lines_left g) a.0) c.0 c.1 in
-    subst (IsGatheredFrom (declared_with d (Session file))) (Ok-same {E = Fault} (with_script g (length a.0) c.0) new c.2)
-    (IsGatheredFrom-script d g file (length a.0) c.0 h s (IsSoundScript-script_of (decls_of g) (lines_left g) a.0 c.0 read))
+    let a = bind-Ok (text_in files file) (λ text. with_text g file text) new e in
+    IsGatheredFrom-text d g new file a.0 h s a.2
 IsGatheredFrom-item d g new files manifest line (Print name) h s e =
     subst (IsGatheredFrom (declared_with d (Print name))) (Ok-same {E = Fault} (with_print g (tensor_number (decls_of g) name)) new e)
     (IsGatheredFrom-print d g name h s.asked)
 
 -- ---- the items of a manifest
-
--- the items of a manifest are sound
-pub AreSound-items_in : (files : Files) (manifest : List ℕ) (items : List (ℕ × Item)) → items_in files manifest ≡ Ok items → AreSound nothing_declared items
-AreSound-items_in files manifest items e =
-    let a = bind-Ok (text_in files manifest) (λ text. located manifest (manifest_of text)) items e in
-    AreSound-manifest_of a.0 items (located-Ok manifest (manifest_of a.0) items a.2)
-
--- each of sound items is sound after what the earlier ones declare
-pub AreSound-at : (d : Declared) (items : List (ℕ × Item)) (i : ℕ) (p : ℕ × Item) → AreSound d items → slice_get items i ≡ Some p
-    → IsSoundItem (fold (λ d p. declared_with d p.1) d (take i items)) p.1
-AreSound-at d [] i p h e = absurd (none-some p e)
-AreSound-at d (q ∷ items) zero p h e = let same : q ≡ p = cc in subst (λ x. IsSoundItem d x.1) same h.0
-AreSound-at d (q ∷ items) (suc i) p h e = AreSound-at (declared_with d q.1) items i p h.1 e
-
--- what is declared with an item more
-pub declared_by-take : (d : Declared) (items : List (ℕ × Item)) (i : ℕ) (p : ℕ × Item) → slice_get items i ≡ Some p
-    → fold (λ d p. declared_with d p.1) d (take (i + 1) items) ≡ declared_with (fold (λ d p. declared_with d p.1) d (take i items)) p.1
-declared_by-take d [] i p e = absurd (none-some p e)
-declared_by-take d (q ∷ items) zero p e = let same : q ≡ p = cc in ap (λ x. declared_with d x.1) same
-declared_by-take d (q ∷ items) (suc i) p e =
-    let one : suc i + 1 ≡ suc (i + 1) = omega arith in
-    ap (λ n. fold (λ d p. declared_with d p.1) d (take n (q ∷ items))) one ∙ declared_by-take (declared_with d q.1) items i p e
 
 -- what some items and then others add
 pub with_items-append : (files : Files) (manifest : List ℕ) (g : Gathered) (xs ys : List (ℕ × Item))
@@ -108,14 +83,6 @@ with_items-append files manifest g (x ∷ xs) ys = step (λ more. with_items-app
     step later (Ok more) = later more
     step later (Err e) = refl
 
--- the items up to one, that one, and those behind it
-pub split_at : {X : Type 0} (xs : List X) (i : ℕ) (x : X) → slice_get xs i ≡ Some x → xs ≡ take i xs ++ x ∷ drop (i + 1) xs
-split_at [] i x e = absurd (none-some x e)
-split_at (y ∷ ys) zero x e = let same : y ≡ x = cc in ap (λ z. z ∷ ys) same
-split_at (y ∷ ys) (suc i) x e =
-    let one : suc i + 1 ≡ suc (i + 1) = omega arith in
-    ap (λ zs. y ∷ zs) (split_at ys i x e) ∙ ap (λ n. y ∷ (take i ys ++ x ∷ drop n (y ∷ ys))) (sym one)
-
 -- the items up to one, and that one
 pub take_one_more : {X : Type 0} (xs : List X) (i : ℕ) (x : X) → slice_get xs i ≡ Some x → take (i + 1) xs ≡ take i xs ++ x ∷ []
 take_one_more [] i x e = absurd (none-some x e)
@@ -123,23 +90,3 @@ take_one_more (y ∷ ys) zero x e = let same : y ≡ x = cc in ap (λ z. z ∷ [
 take_one_more (y ∷ ys) (suc i) x e =
     let one : suc i + 1 ≡ suc (i + 1) = omega arith in
     ap (λ n. take n (y ∷ ys)) one ∙ ap (λ zs. y ∷ zs) (take_one_more ys i x e)
-
--- one item more, without a fault
-pub with_items-take : (files : Files) (manifest : List ℕ) (g h new : Gathered) (items : List (ℕ × Item)) (i : ℕ) (p : ℕ × Item) → slice_get items i ≡ Some p
-    → with_items files manifest g (take i items) ≡ Ok h → with_item files manifest h p.0 p.1 ≡ Ok new
-    → with_items files manifest g (take (i + 1) items) ≡ Ok new
-with_items-take files manifest g h new items i p at before here =
-    ap (with_items files manifest g) (take_one_more items i p at)
-    ∙ with_items-append files manifest g (take i items) (p ∷ [])
-    ∙ bind-of (with_items files manifest g (take i items)) (λ h. with_items files manifest h (p ∷ [])) h before
-    ∙ bind-of (with_item files manifest h p.0 p.1) (λ more. with_items files manifest more []) new here
-
--- an item's fault is that of all
-pub with_items-fault : (files : Files) (manifest : List ℕ) (g h : Gathered) (items : List (ℕ × Item)) (i : ℕ) (p : ℕ × Item) (fault : Fault)
-    → slice_get items i ≡ Some p
-    → with_items files manifest g (take i items) ≡ Ok h → with_item files manifest h p.0 p.1 ≡ Err fault → with_items files manifest g items ≡ Err fault
-with_items-fault files manifest g h items i p fault at before here =
-    ap (with_items files manifest g) (split_at items i p at)
-    ∙ with_items-append files manifest g (take i items) (p ∷ drop (i + 1) items)
-    ∙ bind-of (with_items files manifest g (take i items)) (λ h. with_items files manifest h (p ∷ drop (i + 1) items)) h before
-    ∙ bind-Err (with_item files manifest h p.0 p.1) (λ more. with_items files manifest more (drop (i + 1) items)) fault here

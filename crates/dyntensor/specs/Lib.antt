@@ -10,5 +10,7 @@ pub mod Samples
 pub mod Headline
 pub mod Readings
 pub mod Gathering
+pub mod Adding
+pub mod Drafts
 pub mod Rows
 pub mod Finished

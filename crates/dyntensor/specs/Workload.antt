@@ -126,13 +126,16 @@ loaded files g name file = let t = tensor_number (decls_of g) name in
     located file (tns_of (dims_of (decls_of g) t) (lines_left g) text) >>= (λ lines.
     Ok (with_lines g t lines)))
 
--- what a `session` line adds: the verdicts of its script, where all scripts so far are no longer than the limit
-abbrev pub with_session : Files → Gathered → List ℕ → Result Gathered Fault
-with_session files g file =
-    text_in files file >>= (λ text.
+-- what a script of this file and text adds: its verdicts, where all scripts so far are no longer than the limit
+abbrev pub with_text : Gathered → List ℕ → List ℕ → Result Gathered Fault
+with_text g file text =
     check (nat_le (g.script_bytes + length text) FILE_LIMIT) (too_large file) >>= (λ _.
     located file (script_of (decls_of g) (lines_left g) text) >>= (λ script.
-    Ok (with_script g (length text) script))))
+    Ok (with_script g (length text) script)))
+
+-- what a `session` line adds: the script of its file
+abbrev pub with_session : Files → Gathered → List ℕ → Result Gathered Fault
+with_session files g file = text_in files file >>= (λ text. with_text g file text)
 
 -- what an item at a line of the manifest adds, or its fault
 abbrev pub with_item : Files → List ℕ → Gathered → ℕ → Item → Result Gathered Fault

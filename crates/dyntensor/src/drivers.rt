@@ -48,7 +48,7 @@ pub fn outcome_of<R: Threads + Wait + Sync, S: Shelf, G: Gate + Sync>(
     let Some(manifest) = manifest_named(words) else {
         return Outcome::Usage;
     };
-    match read_workload(alloc, shelf, &manifest) {
+    match read_workload(rt, alloc, shelf, &manifest) {
         Ok((world, printed)) => match run_report(rt, alloc, &world, printed.as_slice(), gate) {
             Ok((text, closed)) => {
                 *end = Some(closed);

@@ -6,11 +6,12 @@ ghost use Rattle.dt_model.specs.Tensors.{dims_of, tensor_named};
 ghost use Rattle.dt_model.specs.Verdicts.{tensor_number};
 ghost use Rattle.dt_model.specs.Worlds.{updates_in};
 ghost use Rattle.dyntensor.specs.Workload.{nothing, decls_of, is_schema, with_schema, with_tensor, with_lines, with_script, with_print, work_of, lines_left, updates_of, lines_in};
+ghost use Rattle.dyntensor.specs.Gathering.{has_room};
 
 use arrayvec::ArrayVec;
 use dt_model::{
-    Call, Coords, Decls, List, MOST_LINES, MOST_ORDER, Name, NoMemory, Pairs, Schema, Scripts,
-    TensorDecl, Verdict, Verdicts, World,
+    Call, Coords, Decls, FILE_LIMIT, List, MOST_LINES, MOST_ORDER, Name, NoMemory, Pairs, Schema,
+    Scripts, TensorDecl, Verdict, Verdicts, World,
 };
 use schema_check::Checked;
 use std::alloc::Global;
@@ -195,6 +196,16 @@ impl Gathering {
         ensures small { result ≤ FILE_LIMIT }
     {
         self.script_bytes
+    }
+
+    /// Whether a script that was read from so many bytes may be added. It takes time by the scripts that were added.
+    pub fn has_room(&self, bytes: usize, script: &[Verdict]) -> bool
+        requires few { lines_in self.now.base + updates_of self.now.scripts ≤ MOST_LINES }
+        requires script { sum_by updates_in script.now ≤ MOST_LINES }
+        requires bytes { bytes ≤ FILE_LIMIT }
+        ensures value { result ≡ has_room self.now bytes script.now }
+    {
+        self.script_bytes + bytes as u64 <= FILE_LIMIT && updates_of(script) <= self.lines_left()
     }
 
     /// The number of the tensor with this name, or 0.

@@ -15,6 +15,9 @@
 
 mod checks;
 mod commands;
+#[cfg(test)]
+mod draft_tests;
+mod drafts;
 mod drivers;
 mod fault_lines;
 mod faults;
@@ -28,6 +31,7 @@ mod sample_tests;
 mod samples;
 #[cfg(test)]
 mod schema_tests;
+mod scripts;
 #[cfg(test)]
 mod session_tests;
 mod stops;

@@ -22,7 +22,8 @@ use std::thread::Threads;
 /// status: 0 a report, 1 the usage line, 2 a fault of the workload, 3 a file that the shelf failed to
 /// give, 4 a sink that failed, 5 out of memory outside a session's call. The texts of 1, 3 and 5
 /// take no memory. Each session runs on a thread of its own, if there is one to be had; no clause names an order in
-/// which their calls take effect. The gate is told of each call that holds its fibers. If the text due is a report,
+/// which their calls take effect. Scripts of sessions that follow one another are fetched ahead: at a fault of one, later ones may
+/// have been fetched, and the shelf's count of faults may have risen at status 2. The gate is told of each call that holds its fibers. If the text due is a report,
 /// `end` has what is left of the table of latches then.
 pub fn top_run<R: Threads + Wait + Sync, S: Shelf, K: Sink, G: Gate + Sync>(
     rt: &R,

@@ -11,15 +11,18 @@ ghost use Rattle.dyntensor.specs.Workload.{text_in, located, is_flat, decls_of, 
 ghost use Rattle.dyntensor.specs.Readings.{HoldsOf, IsQuiet, IsFaultStop, IsFileStop, IsStop};
 ghost use Rattle.dyntensor.specs.Gathering.{CanAdd, IsRunnable};
 
-use crate::faults::{Cause, Fault, fault_in, too_large};
+use crate::drafts::add_run;
+use crate::faults::{Cause, Fault, fault_in};
 use crate::fetching::{fetch, fetch_schemas};
 use crate::gathering::Gathering;
+use crate::scripts::add_session;
 use crate::stops::{Stop, stop_in};
-use dt_model::{Coords, FILE_LIMIT, MOST_SCHEMAS, Name, Schema, World};
+use dt_model::{Coords, MOST_SCHEMAS, Name, Schema, World};
 use dt_outside::Shelf;
 use schema_check::check;
-use script_read::{FileName, Item, Manifest, read_manifest, read_script};
+use script_read::{FileName, Item, Manifest, read_manifest};
 use std::alloc::Global;
+use std::thread::Threads;
 use tns_io::{FileCause, FileFault, read_tns};
 
 /// The name of the schema `flat`.
@@ -62,31 +65,6 @@ fn load<S: Shelf>(
     drop(text);
     match read {
         Ok(lines) => Ok(gathering.add_lines(tensor, lines)?),
-        Err(fault) => Err(stop_in(file, fault)),
-    }
-}
-
-/// Reads the script of a session.
-fn add_session<S: Shelf>(
-    alloc: Global,
-    shelf: &mut S,
-    gathering: &mut Gathering,
-    file: &FileName,
-) -> Result<(), Stop>
-    requires runnable { IsRunnable (work_of gathering.old).world gathering.old.printed }
-    ensures quiet { OnOk result (IsQuiet (S.state shelf.old) (S.state shelf.new)) }
-    ensures script { OnOk result (HoldsOf (S.state shelf.old).files (λ files. with_session files gathering.old file.now ≡ Ok gathering.new)) }
-    ensures files { (S.state shelf.new).files ≡ (S.state shelf.old).files }
-    ensures stop { IfErr result (IsFileStop (S.state shelf.old) (S.state shelf.new) (Some file.now) (λ files. with_session files gathering.old file.now)) }
-{
-    let text = fetch(alloc, shelf, file)?;
-    if gathering.script_bytes() + text.len() as u64 > FILE_LIMIT {
-        return Err(Stop::Refused(too_large(file)));
-    }
-    let most = gathering.lines_left();
-    let read = read_script(alloc, gathering.decls(), text.as_slice(), most);
-    match read {
-        Ok(script) => Ok(gathering.add_script(text.len(), script)?),
         Err(fault) => Err(stop_in(file, fault)),
     }
 }
@@ -227,8 +205,9 @@ fn add_item<S: Shelf>(
     }
 }
 
-/// Reads what the items of a manifest bring, in their order.
-fn add_items<S: Shelf>(
+/// Reads what the items of a manifest bring, in their order. The scripts of sessions that follow one another are read at once.
+fn add_items<R: Threads + Sync, S: Shelf>(
+    rt: &R,
     alloc: Global,
     shelf: &mut S,
     manifest: &FileName,
@@ -243,14 +222,22 @@ fn add_items<S: Shelf>(
     ensures stop { IfErr result (IsStop (S.state shelf.old) (S.state shelf.new) manifest.now (λ files. with_items files manifest.now nothing items.now)) }
 {
     let mut gathering = Gathering::new(alloc)?;
-    for item in items.as_slice() {
-        add_item(alloc, shelf, manifest, &mut gathering, item.0, &item.1)?;
+    let mut rest = items.as_slice();
+    while let Some((item, more)) = rest.split_first() {
+        let added = add_run(rt, alloc, shelf, &mut gathering, rest)?;
+        if added == 0 {
+            add_item(alloc, shelf, manifest, &mut gathering, item.0, &item.1)?;
+            rest = more;
+        } else {
+            rest = &rest[added..];
+        }
     }
     Ok(gathering)
 }
 
 /// Reads the workload of a manifest: a world, and the numbers of the tensors to print after its run.
-pub fn read_workload<S: Shelf>(
+pub fn read_workload<R: Threads + Sync, S: Shelf>(
+    rt: &R,
     alloc: Global,
     shelf: &mut S,
     manifest: &FileName,
@@ -261,6 +248,6 @@ pub fn read_workload<S: Shelf>(
     ensures stop { IfErr result (IsStop (S.state shelf.old) (S.state shelf.new) manifest.now (λ files. workload files manifest.now)) }
 {
     let items = read_items(alloc, shelf, manifest)?;
-    let gathering = add_items(alloc, shelf, manifest, &items)?;
+    let gathering = add_items(rt, alloc, shelf, manifest, &items)?;
     Ok(gathering.into_work())
 }

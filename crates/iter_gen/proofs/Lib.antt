@@ -3,6 +3,7 @@ pub mod BehindLemmas
 pub mod ReadingLemmas
 pub mod NodesLemmas
 pub mod PathsLemmas
+pub mod LastPlaceLemmas
 pub mod ConformingLemmas
 pub mod WalkersLemmas
 pub mod ActsLemmas
@@ -15,3 +16,4 @@ pub mod FoundLemmas
 pub mod VisitsLemmas
 pub mod FrontLemmas
 pub mod TrialsLemmas
+pub mod ThinLemmas

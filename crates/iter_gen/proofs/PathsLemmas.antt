@@ -1,30 +1,27 @@
 -- A path on the way down and up.
 use Rattle.std.proofs.Common.{◌≡◌, ◌≤◌, ◌<◌, ◌+◌, ◌-◌, ◌⊎◌, inl, inr, ℕ, zero, suc, List, [], ◌∷◌, ◌++◌}
 use Rattle.std.proofs.Common.{map, length, get_or, Option, Some, None, refl, ap, ◌∙◌, sym, subst, arith, append_assoc, append-nil, length-append}
-use Rattle.std.specs.List.{slice_get}
-use Rattle.std.specs.Prelude.{IfSome}
-use Rattle.std.specs.Option.{IsSomeAnd, option_map, unwrap_or}
-use Rattle.std.proofs.lemmas.Option.{slice_get-get_or}
+use Rattle.std.specs.Option.{option_map, unwrap_or}
 use Rattle.node_arena.specs.declared.elements.Elem.{Elem}
 use Rattle.node_arena.specs.declared.kinds.NodeKind.{NodeKind}
 use Rattle.node_arena.specs.declared.kinds.Shape.{Shape}
-use Rattle.node_arena.specs.Arenas.{NodeState, ArenaState, node_at, place_in, coordinate_at}
+use Rattle.node_arena.specs.Arenas.{NodeState, ArenaState, node_at, place_in}
 use Rattle.node_arena.specs.Conforming.{IsRising}
 use Rattle.node_arena.specs.Kinds.{shape_at}
 use Rattle.node_arena.specs.Trees.{Trees, done, absent, node, roots, stored}
-use Rattle.node_arena.specs.Walks.{Part, item, parts, walk}
+use Rattle.node_arena.specs.Walks.{item, parts, walk}
 use Rattle.iter_gen.specs.declared.paths.NodeSpot.{NodeSpot}
 use Rattle.iter_gen.specs.declared.paths.TheConstants.{MOST_PLACES}
 use Rattle.iter_gen.specs.Acts.{HasAllLinks}
 use Rattle.iter_gen.specs.Behind.{behind, first_link, past_link, BeginsWithItems}
 use Rattle.iter_gen.specs.Frames.{from, StartsFrom, depth_by, depth, Frame, tree_at, parts_in, elements, left_in}
-use Rattle.iter_gen.specs.Frames.{LiesIn, LieIn, ahead, PathHas, PathTakes, IsToEnter, IsToGoOn, GoesDown, first_coordinate, first_at, part_map}
-use Rattle.iter_gen.proofs.BehindLemmas.{behind-map, past_link-map, BeginsWithItems-map, past_link-begins}
-use Rattle.iter_gen.proofs.FromLemmas.{from-zero, StartsFrom-zero, from-starts, StartsFrom-append, from-below}
-use Rattle.iter_gen.proofs.FromLemmas.{from-up-to, IsRising-later, place-low, place-next, place-before, place-some}
+use Rattle.iter_gen.specs.Frames.{LiesIn, LieIn, ahead, PathHas, IsToEnter, IsToGoOn, GoesDown, first_coordinate, first_at, part_map}
+use Rattle.iter_gen.proofs.BehindLemmas.{behind-map, past_link-map, BeginsWithItems-map}
+use Rattle.iter_gen.proofs.FromLemmas.{from-starts, StartsFrom-append}
+use Rattle.iter_gen.proofs.FromLemmas.{place-low, place-next, place-before, place-some}
 use Rattle.iter_gen.proofs.NodesLemmas.{root, heads, link_walk, elements-first, elements-walk, number_of, read-in, IsLink, IsChild}
 use Rattle.iter_gen.proofs.NodesLemmas.{child-at, depth-some, depth-inside, depth-last, item-in, end-in, rising-in, rises-last, run-rising, from-element, blank}
-use Rattle.iter_gen.proofs.ReadingLemmas.{read, Fits, at-some}
+use Rattle.iter_gen.proofs.ReadingLemmas.{read}
 
 -- a number is below another, or isn't
 pub below-or-not : (n m : ℕ) → (n < m) ⊎ (m ≤ n)
@@ -35,22 +32,6 @@ below-or-not (suc n) (suc m) = more (below-or-not n m)
     more : (n < m) ⊎ (m ≤ n) → (suc n < suc m) ⊎ (suc m ≤ suc n)
     more (inl l) = inl (omega arith)
     more (inr l) = inr (omega arith)
-
-leaves-first : (at c : ℕ) (xs ys zs : List Elem) → xs ++ ys ≡ zs → IsRising zs → coordinate_at ys 0 ≡ Some c → c ≤ at → from at ys ≡ from at zs
-leaves-first at c xs [] zs e r k low = cc
-leaves-first at c xs (y ∷ ys) zs e r k low =
-    let same : y.at ≡ c = cc (k) in
-    sym (from-up-to at xs y ys (subst IsRising (sym e) r) (omega (arith, same, low))) ∙ ap (from at) e
-
--- what has no first element starts from any coordinate
-pub starts-none : (at : ℕ) (xs : List Elem) → coordinate_at xs 0 ≡ None → StartsFrom at xs
-starts-none at [] e = tt
-starts-none at (x ∷ xs) e = cc
-
--- what has a first element starts from those that aren't above it
-pub starts-some : (at c : ℕ) (xs : List Elem) → coordinate_at xs 0 ≡ Some c → at ≤ c → StartsFrom at xs
-starts-some at c [] e l = tt
-starts-some at c (x ∷ xs) e l = let same : x.at ≡ c = cc (e) in omega (arith, l, same)
 
 module _ (s : List NodeKind) (a : ArenaState) where
   -- ---- one place more
@@ -161,49 +142,48 @@ module _ (s : List NodeKind) (a : ArenaState) where
         subst (λ n. GoesDown s a (path ++ record { node = id; place = n; stop = stop } ∷ [])
         (number_of (first_link (behind place (parts_in s p.frame)))) at xs) (sym e) (down-inside stop l ready straight)
 
-    -- the code's readings fit the node
-    pub fits : (shape : Shape) (kind len : ℕ) → IfSome (node_at a id) (λ n. kind ≡ n.kind) → shape ≡ shape_at s kind
-        → IfSome (node_at a id) (λ n. len ≡ length n.run)
-        → IsSomeAnd (node_at a id) (Fits shape len)
-    fits shape kind len k e l =
-        let n : NodeState = stored p.frame.kind p.frame.run p.frame.links in
-        let same_kind : kind ≡ p.frame.kind = at-some (node_at a id) n (λ m. kind ≡ m.kind) stands k in
-        let same_len : len ≡ length p.frame.run = at-some (node_at a id) n (λ m. len ≡ length m.run) stands l in
-        let same_shape : shape_at s p.frame.kind ≡ shape = sym (e ∙ ap (shape_at s) same_kind) in
-        subst (λ o. IsSomeAnd o (Fits shape len)) (sym stands) (
-          subst (λ sh. HasAllLinks sh p.frame.run
-              (roots p.frame.links)) same_shape p.sound.1.links,
-          sym same_len,
-        )
+    module _ (n : NodeState) (is : node_at a id ≡ Some n) where
+      same-node : stored p.frame.kind p.frame.run p.frame.links ≡ n
+      same-node = let both : Some (stored p.frame.kind p.frame.run p.frame.links) ≡ Some n = sym stands ∙ is in cc (both)
 
-    pub len-is : (len : ℕ) → IfSome (node_at a id) (λ n. len ≡ length n.run) → len ≡ length p.frame.run
-    len-is len l = at-some (node_at a id) (stored p.frame.kind p.frame.run p.frame.links) (λ m. len ≡ length m.run) stands l
+      -- the node that is read is the frame
+      pub same-run : n.run ≡ p.frame.run
+      same-run = sym (ap (λ (m : NodeState). m.run) same-node)
 
-    pub low-length : length p.frame.run ≤ 16
-    low-length = p.sound.1.few
+      pub same-length : length n.run ≡ length p.frame.run
+      same-length = ap length same-run
 
-    shape-is : (shape : Shape) (kind : ℕ) → IfSome (node_at a id) (λ n. kind ≡ n.kind) → shape ≡ shape_at s kind → shape ≡ shape_at s p.frame.kind
-    shape-is shape kind k e = e ∙ ap (shape_at s) (at-some (node_at a id) (stored p.frame.kind p.frame.run p.frame.links) (λ m. kind ≡ m.kind) stands k)
+      pub few : length n.run ≤ 16
+      few = let f : length p.frame.run ≤ 16 = p.sound.1.few in omega (arith, same-length)
 
-    pub link-is : (shape : Shape) (kind : ℕ) (result : Option ℕ) → IfSome (node_at a id) (λ n. kind ≡ n.kind) → shape ≡ shape_at s kind
-        → IfSome (node_at a id) (λ n. result ≡ read shape n.run n.links place) → result ≡ number_of (first_link (behind place (parts_in s p.frame)))
-    link-is shape kind result k e r =
-        at-some (node_at a id) (stored p.frame.kind p.frame.run p.frame.links) (λ m. result ≡ read shape m.run m.links place) stands r
-        ∙ ap (λ sh. read sh p.frame.run (roots p.frame.links) place) (shape-is shape kind k e) ∙ read-in s p.frame place
+      pub inside : place ≤ length n.run
+      inside = let w : place ≤ length p.frame.run = p.within in omega (arith, same-length)
 
-    pub straight-is : (shape : Shape) (kind stop : ℕ) → IfSome (node_at a id) (λ n. kind ≡ n.kind) → shape ≡ shape_at s kind
-        → IfSome (node_at a id) (λ n. BeginsWithItems (stop - place) (past_link (behind place (parts shape n.run n.links))))
-        → BeginsWithItems (stop - place) (past_link (behind place (parts_in s p.frame)))
-    straight-is shape kind stop k e b =
-        let n : NodeState = stored p.frame.kind p.frame.run p.frame.links in
-        let here : BeginsWithItems (stop - place) (past_link (behind place (parts shape p.frame.run (roots p.frame.links)))) =
-        at-some (node_at a id) n (λ m. BeginsWithItems (stop - place) (past_link (behind place (parts shape m.run m.links)))) stands b in
-        let mapped : past_link (behind place (parts shape p.frame.run (roots p.frame.links))) ≡ map (part_map root) (past_link (behind place
-        (parts_in s p.frame))) =
-        ap (λ sh. past_link (behind place (parts sh p.frame.run (roots p.frame.links)))) (shape-is shape kind k e)
-        ∙ ap (λ ps. past_link (behind place ps)) (sym (heads (shape_at s p.frame.kind) p.frame.run p.frame.links))
-        ∙ ap past_link (behind-map root place (parts_in s p.frame)) ∙ past_link-map root (behind place (parts_in s p.frame)) in
-        BeginsWithItems-map root (stop - place) (past_link (behind place (parts_in s p.frame))) (subst (BeginsWithItems (stop - place)) mapped here)
+      -- it has the links of its shape
+      pub links-are : (shape : Shape) → shape ≡ shape_at s n.kind → HasAllLinks shape n.run n.links
+      links-are shape e =
+          subst (λ sh. HasAllLinks sh n.run n.links) (sym e) (subst (λ (m : NodeState). HasAllLinks (shape_at s m.kind) m.run m.links) same-node
+          p.sound.1.links)
+
+      -- what is read before the next element is the number of what hangs there
+      pub link-is : (shape : Shape) (result : Option ℕ) → shape ≡ shape_at s n.kind → result ≡ read shape n.run n.links place
+          → result ≡ number_of (first_link (behind place (parts_in s p.frame)))
+      link-is shape result e r =
+          r ∙ ap (λ sh. read sh n.run n.links place) e ∙ ap (λ (m : NodeState). read (shape_at s m.kind) m.run m.links place) (sym same-node)
+          ∙ read-in s p.frame place
+
+      pub straight-is : (shape : Shape) (stop : ℕ) → shape ≡ shape_at s n.kind
+          → BeginsWithItems (stop - place) (past_link (behind place (parts shape n.run n.links)))
+          → BeginsWithItems (stop - place) (past_link (behind place (parts_in s p.frame)))
+      straight-is shape stop e b =
+          let here : BeginsWithItems (stop - place) (past_link (behind place (parts (shape_at s p.frame.kind) p.frame.run (roots p.frame.links)))) =
+          subst (λ (m : NodeState). BeginsWithItems (stop - place) (past_link (behind place (parts (shape_at s m.kind) m.run m.links)))) (sym same-node)
+          (subst (λ sh. BeginsWithItems (stop - place) (past_link (behind place (parts sh n.run n.links)))) e b) in
+          let mapped : past_link (behind place (parts (shape_at s p.frame.kind) p.frame.run (roots p.frame.links)))
+          ≡ map (part_map root) (past_link (behind place (parts_in s p.frame))) =
+          ap (λ ps. past_link (behind place ps)) (sym (heads (shape_at s p.frame.kind) p.frame.run p.frame.links))
+          ∙ ap past_link (behind-map root place (parts_in s p.frame)) ∙ past_link-map root (behind place (parts_in s p.frame)) in
+          BeginsWithItems-map root (stop - place) (past_link (behind place (parts_in s p.frame))) (subst (BeginsWithItems (stop - place)) mapped here)
 
     entered-first : (o : Option Trees) (c : ℕ) → first_link (behind place (parts_in s p.frame)) ≡ o → number_of o ≡ Some c → length p.frame.run ≤ place
         → first_coordinate p.frame.run < first_at a c
@@ -238,11 +218,23 @@ module _ (s : List NodeKind) (a : ArenaState) where
   -- ---- into a node
 
   module _ (path : List NodeSpot) (id at : ℕ) (xs : List Elem) (q : IsToEnter s a path id at xs) where
-    pub run-there : IsSomeAnd (node_at a id) (λ n. (1 ≤ length n.run) × IsRising n.run)
-    run-there = subst (λ o. IsSomeAnd o (λ n. (1 ≤ length n.run) × IsRising n.run)) (sym q.sound.0) (q.sound.1.some, run-rising s a id q.frame q.sound)
+    pub is-there : node_at a id ≡ Some (stored q.frame.kind q.frame.run q.frame.links)
+    is-there = q.sound.0
 
-    pub place-is : (place : ℕ) → IfSome (node_at a id) (λ n. place ≡ place_in at n.run) → place ≡ place_in at q.frame.run
-    place-is place e = at-some (node_at a id) (stored q.frame.kind q.frame.run q.frame.links) (λ n. place ≡ place_in at n.run) q.sound.0 e
+    same-entered : (n : NodeState) → node_at a id ≡ Some n → n.run ≡ q.frame.run
+    same-entered n is =
+        let both : Some n ≡ Some (stored q.frame.kind q.frame.run q.frame.links) = sym is ∙ q.sound.0 in
+        let same : n ≡ stored q.frame.kind q.frame.run q.frame.links = cc (both) in
+        ap (λ (m : NodeState). m.run) same
+
+    pub entered-length : (n : NodeState) → node_at a id ≡ Some n → length n.run ≡ length q.frame.run
+    entered-length n is = ap length (same-entered n is)
+
+    pub entered-some : (n : NodeState) → node_at a id ≡ Some n → 1 ≤ length n.run
+    entered-some n is = subst (λ run. 1 ≤ length run) (sym (same-entered n is)) q.sound.1.some
+
+    pub entered-rising : (n : NodeState) → node_at a id ≡ Some n → IsRising n.run
+    entered-rising n is = subst IsRising (sym (same-entered n is)) (run-rising s a id q.frame q.sound)
 
     starts-there : (place : ℕ) → place ≡ place_in at q.frame.run → (place < length q.frame.run) ⊎ (length q.frame.run ≤ place)
         → StartsFrom at (left_in s q.frame place)
@@ -262,9 +254,9 @@ module _ (s : List NodeKind) (a : ArenaState) where
         sym (from-element s a id q.frame n at blank (ahead s path q.frames) q.sound (omega (arith, e)) (place-before at q.frame.run n blank (sym e)))
 
     -- so many elements are passed as lie below the coordinate
-    pub enters : (place : ℕ) → IfSome (node_at a id) (λ n. place ≡ place_in at n.run) → IsToGoOn s a path id place at xs
-    enters place e =
-        let is : place ≡ place_in at q.frame.run = place-is place e in
+    pub enters : (n : NodeState) → node_at a id ≡ Some n → (place : ℕ) → place ≡ place_in at n.run → IsToGoOn s a path id place at xs
+    enters n there place e =
+        let is : place ≡ place_in at q.frame.run = e ∙ ap (place_in at) (same-entered n there) in
         let low : place_in at q.frame.run ≤ length q.frame.run = place-low at q.frame.run in
         record {
           frames = q.frames;
@@ -279,204 +271,15 @@ module _ (s : List NodeKind) (a : ArenaState) where
         }
 
     -- where the whole run is passed, its first element is below
-    pub first-below : (place : ℕ) → IfSome (node_at a id) (λ n. place ≡ place_in at n.run) → length q.frame.run ≤ place → first_at a id < at
-    first-below place e l =
-        let is : place ≡ place_in at q.frame.run = place-is place e in
+    pub first-below : (n : NodeState) → node_at a id ≡ Some n → (place : ℕ) → place ≡ place_in at n.run → length q.frame.run ≤ place
+        → first_at a id < at
+    first-below n there place e l =
+        let is : place ≡ place_in at q.frame.run = e ∙ ap (place_in at) (same-entered n there) in
         let here : first_at a id ≡ first_coordinate q.frame.run = ap (λ o. unwrap_or (option_map (λ (n : NodeState). first_coordinate n.run) o) 0) q.sound.0 in
         subst (λ m. m < at) (sym here) (place-some at q.frame.run (let some : 1 ≤ length q.frame.run = q.sound.1.some in omega (arith, is)))
 
-    pub entered-length : (len : ℕ) → IfSome (node_at a id) (λ n. len ≡ length n.run) → len ≡ length q.frame.run
-    entered-length len e = at-some (node_at a id) (stored q.frame.kind q.frame.run q.frame.links) (λ n. len ≡ length n.run) q.sound.0 e
-
     pub short-enough : length path ≤ MOST_PLACES
     short-enough = let room : depth s (tree_at id q.frame) + length path ≤ MOST_PLACES = q.room in omega arith
-
-    pub at-entered : (P : NodeState → Type 0) → IfSome (node_at a id) P → P (stored q.frame.kind q.frame.run q.frame.links)
-    at-entered P h = at-some (node_at a id) (stored q.frame.kind q.frame.run q.frame.links) P q.sound.0 h
-
-  -- ---- the last place of a path
-
-  -- the path without its last place
-  record Parted (n : ℕ) (path : List NodeSpot) (spot : NodeSpot) (frames : List Frame) : Type 0 where
-    before : List Frame
-    frame : Frame
-    is : frames ≡ before ++ frame ∷ []
-    spots : LieIn s a n path before
-    here : LiesIn s a spot frame (n + length path)
-
-  parted : (n : ℕ) (path : List NodeSpot) (spot : NodeSpot) (frames : List Frame) → LieIn s a n (path ++ spot ∷ []) frames → Parted n path spot frames
-  parted n [] spot [] h = absurd h
-  parted n [] spot (f ∷ []) h = record { before = []; frame = f; is = refl; spots = tt; here = subst (LiesIn s a spot f) (omega arith) h.0 }
-  parted n [] spot (f ∷ g ∷ fs) h = absurd h.1
-  parted n (p ∷ path) spot [] h = absurd h
-  parted n (p ∷ path) spot (f ∷ fs) h =
-      let i : Parted (suc n) path spot fs = parted (suc n) path spot fs h.1 in
-      record {
-        before = f ∷ i.before;
-        frame = i.frame;
-        is = ap (λ r. f ∷ r) i.is;
-        spots = (h.0, i.spots);
-        here = subst (LiesIn s a spot i.frame) (omega arith) i.here;
-      }
-
-  -- the last place of a path, its element, and what comes behind
-  pub record Last (path : List NodeSpot) (spot : NodeSpot) (xs : List Elem) : Type 0 where
-    pub frames : List Frame
-    pub frame : Frame
-    pub spots : LieIn s a 0 path frames
-    pub here : LiesIn s a spot frame (length path)
-    pub inside : spot.place < length frame.run
-    pub first : Elem
-    pub read : slice_get frame.run spot.place ≡ Some first
-    pub same : get_or frame.run spot.place blank ≡ first
-    pub next : past_link (behind spot.place (parts_in s frame)) ≡ item first ∷ behind (suc spot.place) (parts_in s frame)
-    pub are : (first ∷ elements s (behind (suc spot.place) (parts_in s frame))) ++ ahead s path frames ≡ xs
-
-  begins-some : (n : ℕ) (ps : List (Part Trees)) → 0 < n → BeginsWithItems n ps → ps ≡ [] → ⊥
-  begins-some zero ps l b e = absurd (omega arith)
-  begins-some (suc n) ps l b e = subst (BeginsWithItems (suc n)) e b
-
-  inside-run : (spot : NodeSpot) (f : Frame) (n : ℕ) → LiesIn s a spot f n → (spot.place < length f.run) ⊎ (length f.run ≤ spot.place)
-      → spot.place < length f.run
-  inside-run spot f n h (inl l) = l
-  inside-run spot f n h (inr l) =
-      absurd (begins-some (spot.stop - spot.place) (past_link (behind spot.place (parts_in s f))) (let r : spot.place < spot.stop =
-      h.ready in omega arith) h.straight
-      (end-in s a spot.node spot.place f h.sound l))
-
-  pub last : (path : List NodeSpot) (spot : NodeSpot) (xs : List Elem) → PathHas s a (path ++ spot ∷ []) xs → Last path spot xs
-  last path spot xs h =
-      let p : Parted 0 path spot h.frames = parted 0 path spot h.frames h.spots in
-      let inside : spot.place < length p.frame.run = inside-run spot p.frame (0 + length path) p.here (below-or-not spot.place (length p.frame.run)) in
-      let first : Elem = get_or p.frame.run spot.place blank in
-      let next : past_link (behind spot.place (parts_in s p.frame)) ≡ item first ∷ behind (suc spot.place) (parts_in s p.frame) =
-      item-in s a spot.node spot.place p.frame blank p.here.sound inside in
-      record {
-        frames = p.before;
-        frame = p.frame;
-        spots = p.spots;
-        here = subst (LiesIn s a spot p.frame) (omega arith) p.here;
-        inside = inside;
-        first = first;
-        read = slice_get-get_or p.frame.run spot.place blank inside;
-        same = refl;
-        next = next;
-        are =
-            ap (λ ps. elements s ps ++ ahead s path p.before) (sym next) ∙ sym (ahead-push 0 path spot p.before p.frame p.spots)
-            ∙ ap (ahead s (path ++ spot ∷ [])) (sym p.is) ∙ h.are;
-      }
-
-  -- nothing is left where the path is empty
-  pub nothing : (path : List NodeSpot) (xs : List Elem) → path ≡ [] → PathHas s a path xs → xs ≡ []
-  nothing path xs e h = sym h.are ∙ ap (λ p. ahead s p h.frames) e
-
-  module _ (path : List NodeSpot) (spot : NodeSpot) (xs : List Elem) (l : Last path spot xs) where
-    abbrev pub others : List Elem
-    others = elements s (behind (suc spot.place) (parts_in s l.frame)) ++ ahead s path l.frames
-
-    pub last-stands : node_at a spot.node ≡ Some (stored l.frame.kind l.frame.run l.frame.links)
-    last-stands = l.here.sound.0
-
-    -- the next element of the node follows with no link between
-    pub stays : suc spot.place < spot.stop → PathHas s a (path ++ record { node = spot.node; place = suc spot.place; stop = spot.stop } ∷ []) others
-    stays less =
-        let q : NodeSpot = record { node = spot.node; place = suc spot.place; stop = spot.stop } in
-        let two : spot.stop - spot.place ≡ suc (spot.stop - suc spot.place) = omega arith in
-        let one : suc (spot.stop - suc (suc spot.place)) ≡ spot.stop - suc spot.place = omega arith in
-        let straight : BeginsWithItems (suc (spot.stop - suc spot.place)) (item l.first ∷ behind (suc spot.place) (parts_in s l.frame)) =
-        subst (λ k. BeginsWithItems k (item l.first ∷ behind (suc spot.place) (parts_in s l.frame))) two (subst (BeginsWithItems
-        (spot.stop - spot.place)) l.next l.here.straight) in
-        let begins : BeginsWithItems (suc (spot.stop - suc (suc spot.place))) (behind (suc spot.place) (parts_in s l.frame)) =
-        subst (λ k. BeginsWithItems k (behind (suc spot.place) (parts_in s l.frame))) (sym one) straight in
-        let past : past_link (behind (suc spot.place) (parts_in s l.frame)) ≡ behind (suc spot.place) (parts_in s l.frame) =
-        past_link-begins (spot.stop - suc (suc spot.place)) (behind (suc spot.place) (parts_in s l.frame)) begins in
-        let there : LiesIn s a q l.frame (0 + length path) = record {
-          sound = l.here.sound;
-          ready = less;
-          straight = subst (BeginsWithItems (spot.stop - suc spot.place)) (sym past) straight;
-          room = let r = l.here.room in omega arith;
-        } in
-        record {
-          frames = l.frames ++ l.frame ∷ [];
-          spots = LieIn-push 0 path q l.frames l.frame l.spots there;
-          are = ahead-push 0 path q l.frames l.frame l.spots ∙ ap (λ ps. elements s ps ++ ahead s path l.frames) past;
-        }
-
-    -- the walk goes on behind the element
-    pub goes-on : IsToGoOn s a path spot.node (suc spot.place) 0 others
-    goes-on = record {
-      frames = l.frames;
-      frame = l.frame;
-      spots = l.spots;
-      sound = l.here.sound;
-      room = l.here.room;
-      starts = StartsFrom-zero (ahead s path l.frames);
-      within = let i = l.inside in omega arith;
-      next = StartsFrom-zero (left_in s l.frame (suc spot.place));
-      are = from-zero others;
-    }
-
-    pub takes : (result : Option Elem) (new : List NodeSpot) → IfSome (node_at a spot.node) (λ n. result ≡ slice_get n.run spot.place) → PathHas s a new others
-        → PathTakes s a new result xs
-    takes result new r h =
-        let read : result ≡ slice_get l.frame.run spot.place =
-        at-some (node_at a spot.node) (stored l.frame.kind l.frame.run l.frame.links) (λ n. result ≡ slice_get n.run spot.place) last-stands r in
-        subst (PathTakes s a new result) l.are (record { first = read ∙ l.read; others = h })
-
-    next-number : suc spot.place ≡ spot.place + 1
-    next-number = omega arith
-
-    -- the same with numbers as the code has them
-    pub stays-there : spot.place + 1 < spot.stop → PathHas s a (path ++ record { node = spot.node; place = spot.place + 1; stop = spot.stop } ∷ []) others
-    stays-there less =
-        subst (λ n. PathHas s a (path ++ record { node = spot.node; place = n; stop = spot.stop } ∷ []) others) next-number (stays (omega (arith, less)))
-
-    pub goes-on-there : IsToGoOn s a path spot.node (spot.place + 1) 0 others
-    goes-on-there = subst (λ n. IsToGoOn s a path spot.node n 0 others) next-number goes-on
-
-    pub low-place : spot.place < 16
-    low-place = let i : spot.place < length l.frame.run = l.inside in let f : length l.frame.run ≤ 16 = l.here.sound.1.few in omega arith
-
-    pub last-short : length path < MOST_PLACES
-    last-short =
-        let room : depth s (tree_at spot.node l.frame) + length path ≤ MOST_PLACES = l.here.room in
-        let some : 1 ≤ depth_by (shape_at s l.frame.kind) (depth s l.frame.links) = depth-some (shape_at s l.frame.kind) (depth s l.frame.links) in
-        omega arith
-
-    -- the coordinate that is read is that of the first element
-    pub coming-is : (result : Option ℕ) → IfSome (node_at a spot.node) (λ n. result ≡ coordinate_at n.run spot.place) → result ≡ coordinate_at xs 0
-    coming-is result r =
-        let read : result ≡ coordinate_at l.frame.run spot.place =
-        at-some (node_at a spot.node) (stored l.frame.kind l.frame.run l.frame.links) (λ n. result ≡ coordinate_at n.run spot.place) last-stands r in
-        subst (λ ys. result ≡ coordinate_at ys 0) l.are (read ∙ ap (option_map (λ (e : Elem). e.at)) l.read)
-
-    -- where the next element of the outer nodes isn't above the coordinate, the node is left
-    pub leaves : (at c : ℕ) → IsRising xs → coordinate_at (ahead s path l.frames) 0 ≡ Some c → c ≤ at → from at (ahead s path l.frames) ≡ from at xs
-    leaves at c r e low = leaves-first at c (l.first ∷ elements s (behind (suc spot.place) (parts_in s l.frame))) (ahead s path l.frames) xs l.are r e low
-
-    pub outer : PathHas s a path (ahead s path l.frames)
-    outer = record { frames = l.frames; spots = l.spots; are = refl }
-
-    pub outer-rising : IsRising xs → IsRising (ahead s path l.frames)
-    outer-rising r =
-        IsRising-later (l.first ∷ elements s (behind (suc spot.place) (parts_in s l.frame))) (ahead s path l.frames) (subst IsRising (sym l.are) r)
-
-    -- where the first element is below, the node is entered again
-    pub searches : (at c : ℕ) → coordinate_at xs 0 ≡ Some c → c < at → StartsFrom at (ahead s path l.frames) → IsToEnter s a path spot.node at (from at xs)
-    searches at c e low starts =
-        let is : Some l.first.at ≡ Some c = ap (λ ys. coordinate_at ys 0) l.are ∙ e in
-        let same : l.first.at ≡ c = cc (is) in
-        let below : (get_or l.frame.run spot.place blank).at < at = subst (λ (x : Elem). x.at < at) (sym l.same) (omega (arith, same, low)) in
-        record {
-          frames = l.frames;
-          frame = l.frame;
-          spots = l.spots;
-          sound = l.here.sound;
-          room = l.here.room;
-          starts = starts;
-          are = from-element s a spot.node l.frame spot.place at blank (ahead s path l.frames) l.here.sound l.inside below
-              ∙ sym (from-below at l.first others (omega (arith, same, low))) ∙ ap (from at) l.are;
-        }
 
   pub go-some : (path : List NodeSpot) (o : Option ℕ) (child at : ℕ) (xs : List Elem) → o ≡ Some child → GoesDown s a path o at xs
       → IsToEnter s a path child at xs
@@ -489,19 +292,3 @@ module _ (s : List NodeKind) (a : ArenaState) where
 pub none-left : (o : Option ℕ) → ((n : ℕ) → o ≡ Some n → ⊥) → o ≡ None
 none-left None h = refl
 none-left (Some n) h = absurd (h n refl)
-
--- a path whose last place is this one
-pub record EndsIn (path : List NodeSpot) (spot : NodeSpot) : Type 0 where
-  pub before : List NodeSpot
-  pub is : path ≡ before ++ spot ∷ []
-
--- the last place is the one that is read
-pub ends-in : (path : List NodeSpot) (spot : NodeSpot) → Some spot ≡ slice_get path (length path - 1) → EndsIn path spot
-ends-in [] spot e = cc
-ends-in (p ∷ []) spot e = let same : spot ≡ p = cc (e) in record { before = []; is = ap (λ q. q ∷ []) (sym same) }
-ends-in (p ∷ q ∷ path) spot e =
-    let shift : suc (suc (length path)) - 1 ≡ suc (length path) = omega arith in
-    let back : length path ≡ suc (length path) - 1 = omega arith in
-    let there : Some spot ≡ slice_get (q ∷ path) (length path) = subst (λ i. Some spot ≡ slice_get (p ∷ q ∷ path) i) shift e in
-    let i : EndsIn (q ∷ path) spot = ends-in (q ∷ path) spot (subst (λ i. Some spot ≡ slice_get (q ∷ path) i) back there) in
-    record { before = p ∷ i.before; is = ap (λ r. p ∷ r) i.is }

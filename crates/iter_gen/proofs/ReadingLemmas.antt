@@ -3,7 +3,6 @@ use Rattle.std.proofs.Common.{◌≡◌, ◌≢◌, ◌≤◌, ◌<◌, ◌+◌,
 use Rattle.std.proofs.Common.{◌∷◌, ◌++◌, map, length, get_or, Option, Some, None, refl, ◌∙◌, sym, subst, arith}
 use Rattle.std.proofs.Props.{props}
 use Rattle.std.specs.Prelude.{IfSome}
-use Rattle.std.specs.Option.{IsSomeAnd}
 use Rattle.node_arena.specs.declared.elements.Elem.{Elem}
 use Rattle.node_arena.specs.declared.kinds.Shape.{Shape}
 use Rattle.node_arena.specs.declared.kinds.Shape.TheVariants.{Flat, Post, Ends, Woven}
@@ -82,80 +81,49 @@ read-woven n run (l ∷ ls) h w = full n run (l ∷ ls) h w
     full zero (x ∷ run) (l ∷ ls) h w = refl
     full (suc n) (x ∷ run) (l ∷ ls) h w = full n run ls (omega arith) (omega arith)
 
+-- ---- of a node in hand
+
+module _ (shape : Shape) (place : ℕ) (n : NodeState) (h : HasAllLinks shape n.run n.links) where
+  as-links : (other : Shape) → shape ≡ other → HasAllLinks other n.run n.links
+  as-links other e = subst (λ sh. HasAllLinks sh n.run n.links) e h
+
+  as-read : (other : Shape) (result : Option ℕ) → shape ≡ other → result ≡ read other n.run n.links place → result ≡ read shape n.run n.links place
+  as-read other result e r = subst (λ sh. result ≡ read sh n.run n.links place) (sym e) r
+
+  pub reads-flat : shape ≡ Flat → place ≤ length n.run → None ≡ read shape n.run n.links place
+  reads-flat e l = as-read Flat None e (read-flat place n.run n.links (as-links Flat e) l)
+
+  pub reads-post : (p : ℕ) → shape ≡ Post p → place < length n.run → None ≡ read shape n.run n.links place
+  reads-post p e l = as-read (Post p) None e (read-post p place n.run n.links l)
+
+  pub reads-post-end : (p : ℕ) (result : Option ℕ) → shape ≡ Post p → place ≡ length n.run → result ≡ get_or n.links 0 None
+      → result ≡ read shape n.run n.links place
+  reads-post-end p result e l r = as-read (Post p) result e (r ∙ read-post-end p place n.run n.links l)
+
+  pub reads-ends-first : (p q : ℕ) (result : Option ℕ) → shape ≡ Ends p q → place ≡ 0 → result ≡ get_or n.links 0 None
+      → result ≡ read shape n.run n.links place
+  reads-ends-first p q result e z r =
+      as-read (Ends p q) result e (subst (λ k. result ≡ read (Ends p q) n.run n.links k) (sym z) (r
+      ∙ read-ends-first p q n.run n.links (as-links (Ends p q) e)))
+
+  pub reads-ends : (p q : ℕ) → shape ≡ Ends p q → place ≢ 0 → place < length n.run → None ≡ read shape n.run n.links place
+  reads-ends p q e z l = as-read (Ends p q) None e (read-ends p q place n.run n.links (as-links (Ends p q) e) z l)
+
+  pub reads-ends-end : (p q : ℕ) (result : Option ℕ) → shape ≡ Ends p q → place ≢ 0 → place ≡ length n.run → result ≡ get_or n.links 1 None
+      → result ≡ read shape n.run n.links place
+  reads-ends-end p q result e z l r = as-read (Ends p q) result e (r ∙ read-ends-end p q place n.run n.links (as-links (Ends p q) e) z l)
+
+  pub reads-woven : (result : Option ℕ) → shape ≡ Woven → place ≤ length n.run → result ≡ get_or n.links place None
+      → result ≡ read shape n.run n.links place
+  reads-woven result e l r = as-read Woven result e (r ∙ read-woven place n.run n.links (as-links Woven e) l)
+
 -- ---- of a node that is there
 
--- the node has that many elements, and the links of the shape
-abbrev pub Fits : Shape → ℕ → NodeState → Type 0
-Fits shape len n = HasAllLinks shape n.run n.links × (length n.run ≡ len)
+-- that a node has the links of its shape is a plain fact
+pub HasAllLinks-prop : (shape : Shape) (run : List Elem) (ls : List (Option ℕ)) → IsProp (HasAllLinks shape run ls)
+HasAllLinks-prop shape run ls = hlevel props
 
 -- a fact of the node that is there
 pub at-some : (o : Option NodeState) (n : NodeState) (P : NodeState → Type 0) → o ≡ Some n → IfSome o P → P n
 at-some None n P e h = cc
 at-some (Some m) n P e h = let same : m ≡ n = cc (e) in subst P same h
-
--- that a node is there with a plain fact is one
-pub IsSomeAnd-prop : (o : Option NodeState) (P : NodeState → Type 0) → ((n : NodeState) → IsProp (P n)) → IsProp (IsSomeAnd o P)
-IsSomeAnd-prop None P h = hlevel
-IsSomeAnd-prop (Some n) P h = h n
-
--- a plain fact of a node, if it is there, is one
-pub IfSome-prop : (o : Option NodeState) (P : NodeState → Type 0) → ((n : NodeState) → IsProp (P n)) → IsProp (IfSome o P)
-IfSome-prop None P h = hlevel
-IfSome-prop (Some n) P h = h n
-
--- that a node fits is a plain fact
-pub Fits-prop : (shape : Shape) (len : ℕ) (n : NodeState) → IsProp (Fits shape len n)
-Fits-prop shape len n = hlevel props
-
--- from one fact of a node to another
-pub at-node : (o : Option NodeState) (P Q : NodeState → Type 0) → IsSomeAnd o P → ((n : NodeState) → P n → Q n) → IfSome o Q
-at-node None P Q h f = absurd h
-at-node (Some n) P Q h f = f n h
-
--- from a fact and a reading to another fact
-pub at-node-read : (o : Option NodeState) (P R Q : NodeState → Type 0) → IsSomeAnd o P → IfSome o R → ((n : NodeState) → P n → R n → Q n) → IfSome o Q
-at-node-read None P R Q h r f = absurd h
-at-node-read (Some n) P R Q h r f = f n h r
-
-module _ (shape : Shape) (len place : ℕ) (n : NodeState) where
-  as-links : (other : Shape) → shape ≡ other → Fits shape len n → HasAllLinks other n.run n.links
-  as-links other e f = subst (λ sh. HasAllLinks sh n.run n.links) e f.0
-
-  as-read : (other : Shape) (result : Option ℕ) → shape ≡ other → result ≡ read other n.run n.links place → result ≡ read shape n.run n.links place
-  as-read other result e r = subst (λ sh. result ≡ read sh n.run n.links place) (sym e) r
-
-  pub reads-flat : shape ≡ Flat → place ≤ len → Fits shape len n → None ≡ read shape n.run n.links place
-  reads-flat e l f = as-read Flat None e (read-flat place n.run n.links (as-links Flat e f) (let c : length n.run ≡ len = f.1 in omega arith))
-
-  pub reads-post : (p : ℕ) → shape ≡ Post p → place < len → Fits shape len n → None ≡ read shape n.run n.links place
-  reads-post p e l f = as-read (Post p) None e (read-post p place n.run n.links (let c : length n.run ≡ len = f.1 in omega arith))
-
-  pub reads-post-end : (p : ℕ) (result : Option ℕ) → shape ≡ Post p → place ≤ len → len ≤ place → Fits shape len n → result ≡ get_or n.links 0 None
-      → result ≡ read shape n.run n.links place
-  reads-post-end p result e l m f r = as-read (Post p) result e (r ∙ read-post-end p place n.run n.links (let c : length n.run ≡ len = f.1 in omega arith))
-
-  pub reads-ends-first : (p q : ℕ) (result : Option ℕ) → shape ≡ Ends p q → place ≡ 0 → Fits shape len n → result ≡ get_or n.links 0 None
-      → result ≡ read shape n.run n.links place
-  reads-ends-first p q result e z f r =
-      as-read (Ends p q) result e (subst (λ k. result ≡ read (Ends p q) n.run n.links k) (sym z) (r
-      ∙ read-ends-first p q n.run n.links (as-links (Ends p q) e f)))
-
-  pub reads-ends : (p q : ℕ) → shape ≡ Ends p q → place ≢ 0 → place < len → Fits shape len n → None ≡ read shape n.run n.links place
-  reads-ends p q e z l f = as-read (Ends p q) None e (read-ends p q place n.run n.links (as-links (Ends p q) e f) z (let c : length n.run ≡ len =
-      f.1 in omega arith))
-
-  pub reads-ends-end : (p q : ℕ) (result : Option ℕ) → shape ≡ Ends p q → place ≢ 0 → place ≤ len → len ≤ place → Fits shape len n
-      → result ≡ get_or n.links 1 None → result ≡ read shape n.run n.links place
-  reads-ends-end p q result e z l m f r =
-      as-read (Ends p q) result e (r ∙ read-ends-end p q place n.run n.links (as-links (Ends p q) e f) z (let c : length n.run ≡ len = f.1 in omega arith))
-
-  pub reads-woven : (result : Option ℕ) → shape ≡ Woven → place ≤ len → Fits shape len n → result ≡ get_or n.links place None
-      → result ≡ read shape n.run n.links place
-  reads-woven result e l f r =
-      as-read Woven result e (r ∙ read-woven place n.run n.links (as-links Woven e f) (let c : length n.run ≡ len = f.1 in omega arith))
-
--- from a fact and two readings to another fact
-pub at-nodes : (o : Option NodeState) (P R T Q : NodeState → Type 0) → IsSomeAnd o P → IfSome o R → IfSome o T → ((n : NodeState) → P n → R n → T n → Q n)
-    → IfSome o Q
-at-nodes None P R T Q h r t f = absurd h
-at-nodes (Some n) P R T Q h r t f = f n h r t

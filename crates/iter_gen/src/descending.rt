@@ -6,7 +6,7 @@ ghost use Rattle.node_arena.specs.Rules.{AreSound};
 ghost use Rattle.node_arena.specs.Trees.{Trees};
 ghost use Rattle.iter_gen.specs.Searching.{link_before, link_behind, Searches, Turns};
 
-use node_arena::{Arena, NodeId, NodeKind, NodeView, Shape};
+use node_arena::{Arena, NodeId, NodeKind, NodeView, Shape, kind_of};
 
 /// What a search does at a node.
 #[derive(Clone, Copy, Debug)]
@@ -23,10 +23,7 @@ pub(crate) enum Turn {
 pub(crate) fn shape_of(kinds: &[NodeKind], kind: u32) -> Shape
     ensures value { result ≡ shape_at kinds.now kind }
 {
-    match kinds.get(kind as usize) {
-        Some(kind) => kind.shape,
-        None => Shape::Flat,
-    }
+    kind_of(kinds, kind).shape
 }
 
 /// The coordinate of a node's element at a place.

@@ -14,6 +14,10 @@ mod looking_up;
 mod paths;
 #[cfg(test)]
 mod tests;
+#[cfg(test)]
+mod thin;
+#[cfg(test)]
+mod thin_tests;
 mod visitors;
 mod walker;
 mod walking;

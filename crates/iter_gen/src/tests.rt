@@ -54,19 +54,19 @@ fn code_of(kinds: ArrayVec<Kind, 16>) -> Option<WalkCode> {
 }
 
 /// The code of a schema with one kind.
-fn code_of_one(lo: u32, hi: u32, links: Links) -> Option<WalkCode> {
+pub(crate) fn code_of_one(lo: u32, hi: u32, links: Links) -> Option<WalkCode> {
     let mut kinds = ArrayVec::new();
     kinds.push(kind(b'A', lo, hi, links));
     code_of(kinds)
 }
 
 /// A chain.
-fn chained(hi: u32) -> Option<WalkCode> {
+pub(crate) fn chained(hi: u32) -> Option<WalkCode> {
     code_of_one(1, hi, Links::Post(name(b'A')))
 }
 
 /// Two links.
-fn paired(hi: u32) -> Option<WalkCode> {
+pub(crate) fn paired(hi: u32) -> Option<WalkCode> {
     let links = Links::Ends {
         pre: name(b'A'),
         post: name(b'A'),
@@ -83,7 +83,7 @@ fn headed() -> Option<WalkCode> {
 }
 
 /// A node between a woven structure and a chain.
-fn mixed() -> Option<WalkCode> {
+pub(crate) fn mixed() -> Option<WalkCode> {
     let mut kinds = ArrayVec::new();
     let links = Links::Ends {
         pre: name(b'W'),
@@ -110,8 +110,8 @@ fn item(n: u32) -> Elem
 
 /// So many elements: their coordinates are 1, 3, 5 and so on.
 #[tactic(auto, using(crate::proofs::TrialsLemmas::odds_snoc, crate::proofs::TrialsLemmas::rising_of))]
-fn items(count: u32) -> ArrayVec<Elem, 1000>
-    requires few { count ≤ 1000 }
+pub(crate) fn items(count: u32) -> ArrayVec<Elem, 3000>
+    requires few { count ≤ 3000 }
     ensures rising { IsRising result.items }
     ensures len { length result.items ≡ count }
 {
@@ -144,7 +144,7 @@ fn built<L: Ledger>(
 
 /// Whether the walker gives so many elements, and then none.
 fn is_walked<L: Ledger>(walker: &mut Walker<'_>, count: u32, steps: &mut Steps<L>) -> bool
-    requires few { count ≤ 1000 }
+    requires few { count ≤ 3000 }
     ensures code { walker.new.code ≡ walker.old.code }
 {
     'elements: for n in 0..count {
@@ -162,7 +162,7 @@ fn is_sought<L: Ledger>(
     seed: u32,
     steps: &mut Steps<L>,
 ) -> bool
-    requires few { count ≤ 1000 }
+    requires few { count ≤ 3000 }
     ensures code { walker.new.code ≡ walker.old.code }
 {
     let mut random = seed;
@@ -183,7 +183,7 @@ fn is_sought<L: Ledger>(
 }
 
 /// Whether a walker that is opened again and again gives the right walks and seeks.
-fn is_right_through<'a, L: Ledger>(
+pub(crate) fn is_right_through<'a, L: Ledger>(
     code: &'a WalkCode,
     arena: &'a Arena,
     top: Structure,
@@ -191,7 +191,7 @@ fn is_right_through<'a, L: Ledger>(
     steps: &mut Steps<L>,
 ) -> bool
     requires conforms { CanBeWalked code.now arena.now top }
-    requires few { count ≤ 1000 }
+    requires few { count ≤ 3000 }
 {
     let mut walker = Walker::open(code, arena, top);
     if !is_walked(&mut walker, count, steps) {
@@ -217,7 +217,7 @@ fn is_right<L: Ledger>(
     requires name { blank.name ≡ L.name }
     requires parts { blank.parts ≡ L.parts }
     requires one { blank.parts ≡ 1 }
-    requires few { count ≤ 1000 }
+    requires few { count ≤ 3000 }
 {
     let mut steps = Steps::<L>::open(blank);
     let mut arena = Arena::new(alloc, MOST_ELEMENTS);
@@ -228,7 +228,7 @@ fn is_right<L: Ledger>(
 
 /// The same, with a count of ticks.
 fn is_right_at(alloc: Global, code: &WalkCode, count: u32) -> Result<bool, NoMemory>
-    requires few { count ≤ 1000 }
+    requires few { count ≤ 3000 }
 {
     is_right::<Brand>(alloc, Blank::new(1), code, count)
 }
@@ -244,7 +244,7 @@ fn is_right_at_each_size(alloc: Global, code: Option<WalkCode>) -> Result<bool, 
             return Ok(false);
         }
     }
-    Ok(is_right_at(alloc, &code, 300)? && is_right_at(alloc, &code, 1000)?)
+    Ok(is_right_at(alloc, &code, 300)? && is_right_at(alloc, &code, 3000)?)
 }
 
 #[test]
@@ -269,7 +269,7 @@ fn nodes_with_two_links_are_walked_and_sought(rt: HostRuntime) -> Result<(), Fai
 
 #[test]
 fn woven_structures_are_walked_and_sought(rt: HostRuntime) -> Result<(), Fail> {
-    assert!(rt; is_right_at_each_size(rt.alloc(), code_of_one(2, 8, Links::Woven))?);
+    assert!(rt; is_right_at_each_size(rt.alloc(), code_of_one(4, 8, Links::Woven))?);
     assert!(rt; is_right_at_each_size(rt.alloc(), code_of_one(1, 2, Links::Woven))?);
     Ok(())
 }

@@ -92,6 +92,7 @@ impl<'a> Walker<'a> {
     }
 
     /// Takes the first element left. None exactly where none is left. One tick.
+    #[inline]
     pub fn next<L: Ledger>(&mut self, steps: &mut Steps<L>) -> Option<Elem>
         ensures next { (xs : List Elem) → AreLeft self.old xs → TakesFirst self.new result xs }
         ensures code { self.new.code ≡ self.old.code }
@@ -104,6 +105,7 @@ impl<'a> Walker<'a> {
 
     /// Drops the elements left whose coordinate is below `at`, and takes the first of the others. None exactly where none is left then.
     /// One tick.
+    #[inline]
     pub fn seek<L: Ledger>(&mut self, at: u32, steps: &mut Steps<L>) -> Option<Elem>
         ensures next { (xs : List Elem) → AreLeft self.old xs → TakesFirst self.new result (from at xs) }
         ensures code { self.new.code ≡ self.old.code }
@@ -119,7 +121,8 @@ impl<'a> Walker<'a> {
 // ---- in a flat run or in nodes
 
 impl<'a> Walker<'a> {
-    /// Takes the first element left.
+    /// Takes the first element left. Callers take it in, since its result is costly to hand on.
+    #[inline(always)]
     fn take(&mut self) -> Option<Elem>
         ensures next { (xs : List Elem) → AreLeft self.old xs → TakesFirst self.new result xs }
         ensures code { self.new.code ≡ self.old.code }

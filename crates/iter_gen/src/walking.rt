@@ -3,103 +3,86 @@ ghost use Rattle.std.specs.Prelude.{◌≡◌, ◌≢◌, ◌≤◌, ◌<◌, �
 ghost use Rattle.std.specs.Option.{IsSomeAnd};
 ghost use Rattle.node_arena.specs.declared.elements.Elem.{Elem};
 ghost use Rattle.node_arena.specs.declared.kinds.NodeKind.{NodeKind};
-ghost use Rattle.node_arena.specs.Arenas.{node_at, place_in, coordinate_at};
+ghost use Rattle.node_arena.specs.Arenas.{ArenaState, node_at, place_in, coordinate_at};
 ghost use Rattle.node_arena.specs.Conforming.{IsRising};
-ghost use Rattle.node_arena.specs.Kinds.{shape_at};
 ghost use Rattle.node_arena.specs.Walks.{parts};
 ghost use Rattle.iter_gen.specs.Acts.{HasAllLinks};
 ghost use Rattle.iter_gen.specs.Behind.{behind, first_link, past_link, BeginsWithItems};
 ghost use Rattle.iter_gen.specs.Frames.{from, PathHas, PathTakes, IsToEnter, IsToGoOn, GoesDownFrom, LeavesFor, link_read, CanGoOn, CanBeLeft, RisesTo};
 
+use crate::descending::shape_of;
 use crate::paths::{MOST_PLACES, NodeSpot};
 use arrayvec::ArrayVec;
-use node_arena::{Arena, Elem, NodeId, NodeKind, Shape};
-
-/// The links of the kind with this number.
-fn shape_of(kinds: &[NodeKind], kind: u32) -> Shape
-    ensures value { result ≡ shape_at kinds.now kind }
-{
-    match kinds.get(kind as usize) {
-        Some(kind) => kind.shape,
-        None => Shape::Flat,
-    }
-}
+use node_arena::{Arena, Elem, NodeId, NodeKind, NodeView, Shape};
 
 /// The link before the element at a place of a node, or behind the last one, if the node's walk has one there.
-fn link_before(
-    arena: &Arena,
-    node: NodeId,
-    shape: Shape,
-    len: usize,
-    place: usize,
-) -> Option<NodeId>
-    requires there { IsSomeAnd (node_at arena.now node) (λ n. HasAllLinks shape n.run n.links × (length n.run ≡ len)) }
-    requires within { place ≤ len }
-    ensures value { IfSome (node_at arena.now node) (λ n. result ≡ link_read (first_link (behind place (parts shape n.run n.links)))) }
+fn link_before(node: &NodeView<'_>, shape: Shape, place: usize) -> Option<NodeId>
+    requires links { HasAllLinks shape node.now.run node.now.links }
+    requires within { place ≤ length node.now.run }
+    ensures value { result ≡ link_read (first_link (behind place (parts shape node.now.run node.now.links))) }
 {
     match shape {
         Shape::Flat => None,
         Shape::Post(_) => {
-            if place < len {
+            if place < node.len() {
                 None
             } else {
-                arena.link(node, 0)
+                node.link(0)
             }
         }
         Shape::Ends { pre: _, post: _ } => {
             if place == 0 {
-                arena.link(node, 0)
-            } else if place < len {
+                node.link(0)
+            } else if place < node.len() {
                 None
             } else {
-                arena.link(node, 1)
+                node.link(1)
             }
         }
-        Shape::Woven => arena.link(node, place),
+        Shape::Woven => node.link(place),
     }
 }
 
 /// The place behind the last element that follows one in a node with no link between.
-fn stop_behind(arena: &Arena, node: NodeId, shape: Shape, len: usize, place: usize) -> usize
-    requires there { IsSomeAnd (node_at arena.now node) (λ n. HasAllLinks shape n.run n.links × (length n.run ≡ len)) }
-    requires within { place < len }
+fn stop_behind(node: &NodeView<'_>, shape: Shape, place: usize) -> usize
+    requires links { HasAllLinks shape node.now.run node.now.links }
+    requires within { place < length node.now.run }
     ensures behind { place < result }
-    ensures within { result ≤ len }
-    ensures straight { IfSome (node_at arena.now node) (λ n. BeginsWithItems (result - place) (past_link (behind place (parts shape n.run n.links)))) }
+    ensures within { result ≤ length node.now.run }
+    ensures straight { BeginsWithItems (result - place) (past_link (behind place (parts shape node.now.run node.now.links))) }
 {
     match shape {
         Shape::Woven => {
-            if arena.link_count(node) == 0 {
-                len
+            if node.link_count() == 0 {
+                node.len()
             } else {
                 place + 1
             }
         }
-        _ => len,
+        _ => node.len(),
     }
 }
 
 /// Puts the spot at a place of a node on the path, if there is an element. Answers the child that is walked before.
-fn enter(
+fn go_on(
     kinds: &[NodeKind],
-    arena: &Arena,
     path: &mut ArrayVec<NodeSpot, MOST_PLACES>,
-    node: NodeId,
+    id: NodeId,
+    node: &NodeView<'_>,
     place: usize,
 ) -> Option<NodeId>
-    requires there { CanGoOn kinds.now arena.now path.old.items node place }
-    ensures down { GoesDownFrom kinds.now arena.now path.old.items node place path.new.items result }
-    ensures longer { IfSome (node_at arena.now node) (λ n. place < length n.run → length path.new.items ≡ length path.old.items + 1) }
-    ensures same { IfSome (node_at arena.now node) (λ n. length n.run ≤ place → path.new.items ≡ path.old.items) }
-    ensures rises { IfSome (node_at arena.now node) (λ n. length n.run ≤ place → RisesTo arena.now node result) }
+    requires there { (a : ArenaState) × (node_at a id ≡ Some node.now) × CanGoOn kinds.now a path.old.items id place }
+    ensures down { (a : ArenaState) → node_at a id ≡ Some node.now → GoesDownFrom kinds.now a path.old.items id place path.new.items result }
+    ensures longer { place < length node.now.run → length path.new.items ≡ length path.old.items + 1 }
+    ensures same { length node.now.run ≤ place → path.new.items ≡ path.old.items }
+    ensures rises { (a : ArenaState) → node_at a id ≡ Some node.now → CanGoOn kinds.now a path.old.items id place → length node.now.run ≤ place → RisesTo a id result }
 {
-    let shape = shape_of(kinds, arena.kind(node));
-    let len = arena.len(node);
-    let link = link_before(arena, node, shape, len, place);
-    if place < len {
-        let stop = stop_behind(arena, node, shape, len, place);
+    let shape = shape_of(kinds, node.kind());
+    let link = link_before(node, shape, place);
+    if place < node.len() {
+        let stop = stop_behind(node, shape, place);
         path.push(NodeSpot {
-            node,
+            node: id,
             place: place as u8,
             stop: stop as u8,
         });
@@ -108,20 +91,22 @@ fn enter(
 }
 
 /// How many elements of a node are below a coordinate.
-fn place_from(arena: &Arena, node: NodeId, at: u32) -> usize
-    requires there { IsSomeAnd (node_at arena.now node) (λ n. (1 ≤ length n.run) × IsRising n.run) }
-    ensures value { IfSome (node_at arena.now node) (λ n. result ≡ place_in at n.run) }
+fn place_from(node: &NodeView<'_>, at: u32) -> usize
+    requires some { 1 ≤ length node.now.run }
+    requires rising { IsRising node.now.run }
+    ensures value { result ≡ place_in at node.now.run }
 {
-    let len = arena.len(node);
-    if let Some(last) = arena.coordinate(node, len - 1) {
+    let len = node.len();
+    if let Some(last) = node.coordinate(len - 1) {
         if last < at {
             return len;
         }
     }
-    arena.place(node, at)
+    node.place(at)
 }
 
-/// Goes down from the beginning of a node to the first element that isn't below a coordinate, and puts the spots on the path.
+/// Goes down from the beginning of a node to the first element that isn't below a coordinate, and puts the spots on the path. It looks at each
+/// node once.
 pub(crate) fn sink(
     kinds: &[NodeKind],
     arena: &Arena,
@@ -132,17 +117,37 @@ pub(crate) fn sink(
     requires there { ∥ ((xs : List Elem) × IsToEnter kinds.now arena.now path.old.items top at xs) ∥₁ }
     ensures left { (xs : List Elem) → IsToEnter kinds.now arena.now path.old.items top at xs → PathHas kinds.now arena.now path.new.items xs }
 {
-    let mut node = top;
+    let mut id = top;
     loop {
-        let place = place_from(arena, node, at);
-        match enter(kinds, arena, path, node, place) {
+        let node = arena.view(id);
+        let place = place_from(&node, at);
+        match go_on(kinds, path, id, &node, place) {
             None => return,
-            Some(child) => node = child,
+            Some(child) => id = child,
         }
     }
 }
 
-/// Takes the first element that a path has left. None where there is none.
+/// Goes on in a node of which so many elements are passed, to the next element of the walk.
+#[inline(never)]
+fn pass(
+    kinds: &[NodeKind],
+    arena: &Arena,
+    path: &mut ArrayVec<NodeSpot, MOST_PLACES>,
+    id: NodeId,
+    place: usize,
+)
+    requires there { ∥ ((xs : List Elem) × IsToGoOn kinds.now arena.now path.old.items id place 0 xs) ∥₁ }
+    ensures left { (xs : List Elem) → IsToGoOn kinds.now arena.now path.old.items id place 0 xs → PathHas kinds.now arena.now path.new.items xs }
+{
+    let node = arena.view(id);
+    if let Some(child) = go_on(kinds, path, id, &node, place) {
+        sink(kinds, arena, path, child, 0);
+    }
+}
+
+/// Takes the first element that a path has left. None where there is none. Within a run it looks at one node, and is short: callers take it in.
+#[inline(always)]
 pub(crate) fn step(
     kinds: &[NodeKind],
     arena: &Arena,
@@ -154,12 +159,13 @@ pub(crate) fn step(
     match path.pop() {
         None => None,
         Some(spot) => {
-            let elem = arena.elem(spot.node, spot.place as usize);
+            let node = arena.view(spot.node);
+            let elem = node.elem(spot.place as usize);
             let place = spot.place + 1;
             if place < spot.stop {
                 path.push(NodeSpot { place, ..spot });
-            } else if let Some(child) = enter(kinds, arena, path, spot.node, place as usize) {
-                sink(kinds, arena, path, child, 0);
+            } else {
+                pass(kinds, arena, path, spot.node, place as usize);
             }
             elem
         }

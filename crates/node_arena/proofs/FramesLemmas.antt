@@ -28,3 +28,9 @@ Stands-outside a b t (node j k run ls rest) keeps apart h = (
   Stands-outside a b t ls keeps apart.1 h.1,
   Stands-outside a b t rest keeps apart.2 h.2,
 )
+
+-- all trees are apart from none
+pub IsApart-done : (t : Trees) → IsApart t done
+IsApart-done done = tt
+IsApart-done (absent rest) = IsApart-done rest
+IsApart-done (node i k run ls rest) = (tt, IsApart-done ls, IsApart-done rest)

@@ -13,3 +13,4 @@ pub mod HeightsLemmas
 pub mod ChangesLemmas
 pub mod PutInLemmas
 pub mod InsertionsLemmas
+pub mod DepthsLemmas

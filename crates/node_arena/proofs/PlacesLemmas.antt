@@ -70,3 +70,9 @@ module _ (s : List NodeKind) (sound : AreSound s) where
   some-places (Post p) k run ls = (whole-some p, tt)
   some-places (Ends p q) k run ls = (whole-some p, (whole-some q, tt))
   some-places Woven k run ls = AllSome-woven _ run ls (sound.some k)
+
+-- nothing hangs at no place
+pub hang-none : (s : List NodeKind) (t : Trees) → Hang s [] t → t ≡ done
+hang-none s done h = refl
+hang-none s (absent rest) h = absurd h
+hang-none s (node i k run ls rest) h = absurd h

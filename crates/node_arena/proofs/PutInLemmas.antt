@@ -171,6 +171,18 @@ pub put_in-place : (x : Elem) (es : List Elem) → put_in x es ≡ insert es (pl
 put_in-place x [] = refl
 put_in-place x (e ∷ es) = place-step x e es (place_in x.at es) (put_in x es) (ltb e.at x.at) (put_in-place x es)
 
+low-step : (b : Bool) (n m : ℕ) → n ≤ m → cond b (suc n) 0 ≤ suc m
+low-step true n m h = omega arith
+low-step false n m h = omega arith
+
+-- the place is at most the length
+pub place_in-low : (n : ℕ) (es : List Elem) → place_in n es ≤ length es
+place_in-low n [] = omega arith
+place_in-low n (e ∷ es) = low-step (ltb e.at n) (place_in n es) (length es) (place_in-low n es)
+
+-- where an element is put in at its place
+pub ruleset run_laws = (place_in-low, put_in-place)
+
 below-step : (n : ℕ) (e : Elem) (es : List Elem) (m : ℕ) (b : Bool) → ltb e.at n ≡ b → AllBelow n (take m es) → AllBelow n (take (cond b (suc m) 0) (e ∷ es))
 below-step n e es m true t h = (grind (arith, t), h)
 below-step n e es m false t h = tt
@@ -188,6 +200,22 @@ reach-step n e es m false t h = grind (arith, t)
 pub Reaches-place : (n : ℕ) (es : List Elem) → Reaches n (drop (place_in n es) es)
 Reaches-place n [] = tt
 Reaches-place n (e ∷ es) = reach-step n e es (place_in n es) (ltb e.at n) refl (Reaches-place n es)
+
+-- ---- before and behind
+
+-- what is behind rises from what is before
+pub RisesFrom-after : (n : ℕ) (xs ys : List Elem) → RisesFrom n (xs ++ ys) → RisesFrom n ys
+RisesFrom-after n [] ys h = h
+RisesFrom-after n (x ∷ xs) ys h = lower n x.at ys h.0 (RisesFrom-after x.at xs ys h.1)
+  where
+    lower : (n m : ℕ) (zs : List Elem) → n < m → RisesFrom m zs → RisesFrom n zs
+    lower n m [] l up = tt
+    lower n m (z ∷ zs) l up = (omega (arith, l, up.0), up.1)
+
+-- what lies before other elements isn't among them
+pub AllLack-before : (xs ys : List Elem) → IsRising (xs ++ ys) → AllLack xs ys
+AllLack-before [] ys h = tt
+AllLack-before (x ∷ xs) ys h = (Lacks-low x.at x.at ys (RisesFrom-after x.at xs ys h) (omega arith), AllLack-before xs ys (RisesFrom-rising x.at (xs ++ ys) h))
 
 -- ---- below
 

@@ -1,5 +1,5 @@
 -- How many elements a walk has.
-use Rattle.std.proofs.Common.{◌≡◌, ◌≤◌, ◌+◌, ℕ, List, [], ◌∷◌, ◌++◌, map, length, refl, arith, length-append}
+use Rattle.std.proofs.Common.{◌≡◌, ◌≤◌, ◌+◌, ℕ, List, [], ◌∷◌, ◌++◌, map, length, refl, ap, arith, length-append}
 use Rattle.node_arena.specs.declared.elements.Elem.{Elem}
 use Rattle.node_arena.specs.declared.kinds.NodeKind.{NodeKind}
 use Rattle.node_arena.specs.Kinds.{shape_at}
@@ -65,3 +65,14 @@ length-weave (x ∷ run) (w ∷ ws) h =
     let ih : length rest ≡ length run + total ws = length-weave run ws (omega arith) in
     let e : length (w ++ (x ∷ rest)) ≡ length w + length (x ∷ rest) = length-append w (x ∷ rest) in
     omega arith
+
+-- the elements of a run come first
+pub joined-items : (run : List Elem) (ps : List (Part (List Elem))) → joined (map item run ++ ps) ≡ run ++ joined ps
+joined-items [] ps = refl
+joined-items (x ∷ xs) ps = ap (λ w. x ∷ w) (joined-items xs ps)
+
+-- the walks of a row, one after another
+pub joined-links : (s : List NodeKind) (t : Trees) → joined (map link (walks s t)) ≡ walk s t
+joined-links s done = refl
+joined-links s (absent rest) = joined-links s rest
+joined-links s (node i k run ls rest) = ap (λ w. joined (parts (shape_at s k) run (walks s ls)) ++ w) (joined-links s rest)

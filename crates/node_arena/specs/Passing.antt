@@ -1,5 +1,6 @@
 -- What an insertion into nodes of one discipline asks for, and what it leaves to do.
-use Rattle.std.specs.Prelude.{◌≡◌, ◌≢◌, ◌⊎◌, ◌≤◌, ◌+◌, ℕ, List, [], ◌∷◌, ◌++◌, length, Option, Some, None, slice_set, slice_index_or}
+use Rattle.std.specs.Prelude.{◌≡◌, ◌≢◌, ◌⊎◌, ◌≤◌, ◌+◌, ℕ, max, Bool, true, false, List, [], ◌∷◌, ◌++◌, length, Option, Some, None, slice_set, slice_index_or}
+use Rattle.std.specs.Option.{IsSomeAnd}
 use Rattle.node_arena.specs.declared.elements.Elem.{Elem}
 use Rattle.node_arena.specs.declared.elements.Side.{Side}
 use Rattle.node_arena.specs.declared.elements.Side.TheVariants as side
@@ -50,6 +51,13 @@ abbrev pub LieBeside : Side → List Elem → List Elem → Type 0
 LieBeside side.Pre run xs = IsRising (xs ++ run)
 LieBeside side.Post run xs = IsRising (run ++ xs)
 
+-- how many links a node with these links has; 0 for a woven one, whose links depend on its run
+abbrev pub link_total : Shape → ℕ
+link_total Flat = 0
+link_total (Post p) = 1
+link_total (Ends p q) = 2
+link_total Woven = 0
+
 -- none of the elements has the coordinate of one of these
 abbrev pub AllLack : List Elem → List Elem → Type 0
 AllLack [] es = Unit {0}
@@ -68,6 +76,32 @@ pub record CanPutIn (s : List NodeKind) (a : ArenaState) (x : Elem) (i : ℕ) (t
   pub conforms : Conform s kind t
   pub lacks : Lacks x.at (walk s t)
 
+-- ---- how deep it went
+
+-- the spine was n and is m: where a depth is told, the greater of n and that depth; where none is, at most one more than n
+abbrev pub Deepens : Option ℕ → ℕ → ℕ → Type 0
+Deepens None n m = m ≤ 1 + n
+Deepens (Some d) n m = m ≡ max n d
+
+-- the depth below so many nodes with two links, where both are told
+abbrev pub deeper : Option ℕ → Option ℕ → Option ℕ
+deeper None deep = None
+deeper (Some p) None = None
+deeper (Some p) (Some d) = Some (p + d)
+
+-- how deep a new node with these links goes, below so many nodes with two links, where something hangs behind its run or not; none where it pushes
+-- that down
+abbrev pub wedge_depth : Shape → Bool → ℕ → Option ℕ
+wedge_depth Flat behind p = Some 0
+wedge_depth (Post q) behind p = Some 0
+wedge_depth (Ends q r) false p = Some (p + 1)
+wedge_depth (Ends q r) true p = None
+wedge_depth Woven behind p = Some 0
+
+-- a node is new, with nothing before its run and something behind it
+abbrev pub PushesDown : ArenaState → ArenaState → Type 0
+PushesDown a b = (j : ℕ) × (i : ℕ) × (node_at a j ≡ None) × IsSomeAnd (node_at b j) (λ n. n.links ≡ None ∷ Some i ∷ [])
+
 -- ---- what it leaves
 
 -- what hangs at a link of kind k, or nothing, has become a structure of that kind with these elements put in
@@ -81,11 +115,12 @@ pub record PutsAt (s : List NodeKind) (k : ℕ) (a b : ArenaState) (xs : List El
   pub keeps : KeepsOutside a b t
   pub news : TakesFree a t u
 
--- x is in a tree with the same root
-pub record IsDone (s : List NodeKind) (a b : ArenaState) (x : Elem) (t : Trees) : Type 0 where
+-- x is in a tree with the same root, and went so deep
+pub record IsDone (s : List NodeKind) (a b : ArenaState) (x : Elem) (t : Trees) (deep : Option ℕ) : Type 0 where
   pub tree : Trees
   pub same_root : roots tree ≡ roots t
   pub puts : PutsIn s a b (x ∷ []) t tree
+  pub deepens : Deepens deep (spine s t) (spine s tree)
 
 -- Nothing was written, and x goes on; or the kind behind the run is woven, and one write took the end of the node's run away. The ticks were n
 -- before, and are m.
@@ -93,13 +128,16 @@ abbrev pub GoesOn : List NodeKind → ArenaState → ArenaState → Elem → ℕ
 GoesOn s a b x i passer p xs n m = ((b ≡ a) × (xs ≡ x ∷ []) × (m ≡ n)) ⊎ ((shape_at s p ≡ Woven) × ChangesNode a b i (Some passer) × (m ≡ n + 1))
 
 -- The elements still have to go into the structure at this side of node i, which is of another discipline. With them there, and with the link
--- set to its root, x is in the tree, under the old root. Where that structure keeps its root, the link is set already.
-pub record IsPassed (s : List NodeKind) (a b : ArenaState) (x : Elem) (t : Trees) (i : ℕ) (at_side : Side) (xs : List Elem) (n m : ℕ) : Type 0 where
+-- set to its root, x is in the tree, under the old root, and as deep as they went there, below the nodes above. Where that structure keeps its
+-- root, the link is set already.
+pub record IsPassed (s : List NodeKind) (a b : ArenaState) (x : Elem) (t : Trees) (i : ℕ) (at_side : Side) (xs : List Elem) (above : Option ℕ)
+    (n m : ℕ) : Type 0 where
   -- the node, the link, and what hangs there
   pub passer : NodeState
   pub there : node_at b i ≡ Some passer
   pub link : LinkPlace
   pub has_link : link_at (shape_at s passer.kind) at_side ≡ Some link
+  pub width : length passer.links ≡ link_total (shape_at s passer.kind)
   pub other : discipline (shape_at s link.kind) ≢ discipline (shape_at s passer.kind)
   pub below : Trees
   pub leads : roots below ≡ slice_index_or passer.links link.place None ∷ []
@@ -117,9 +155,17 @@ pub record IsPassed (s : List NodeKind) (a b : ArenaState) (x : Elem) (t : Trees
   pub goes_on : GoesOn s a b x i passer link.kind xs n m
   pub spare : b.nodes.spare ≡ a.nodes.spare
   pub lift : (c d : ArenaState) (v : Trees) (top : Option ℕ) → PutsAt s link.kind b c xs below v → roots v ≡ top ∷ []
-      → ChangesNode c d i (Some (record passer { links = slice_set passer.links link.place top })) → IsDone s a d x t
+      → ChangesNode c d i (Some (record passer { links = slice_set passer.links link.place top }))
+      → (deep : Option ℕ) → Deepens deep (spine s below) (spine s v) → IsDone s a d x t (deeper above deep)
+
+-- the depth is told, but where something was pushed down; and the nodes above are
+abbrev pub IsTold : ArenaState → ArenaState → Step → Type 0
+IsTold a b (Done None) = PushesDown a b
+IsTold a b (Done (Some d)) = Unit {0}
+IsTold a b (Pass i at_side xs None) = ⊥
+IsTold a b (Pass i at_side xs (Some p)) = Unit {0}
 
 -- What is left to do after an insertion into nodes of one discipline. The ticks were n before, and are m.
 abbrev pub Leaves : List NodeKind → ArenaState → ArenaState → Elem → Trees → Step → ℕ → ℕ → Type 0
-Leaves s a b x t Done n m = IsDone s a b x t
-Leaves s a b x t (Pass i at_side xs) n m = IsPassed s a b x t i at_side xs.items n m
+Leaves s a b x t (Done deep) n m = IsDone s a b x t deep
+Leaves s a b x t (Pass i at_side xs above) n m = IsPassed s a b x t i at_side xs.items above n m

@@ -4,10 +4,13 @@ ghost use Rattle.std.specs.Prelude.{length, slice_get, slice_index_or, slice_set
 ghost use Rattle.node_arena.specs.Arenas.{NodeState, RunState, ArenaState, node_at, run_at, places_for, place_in, coordinate_at};
 ghost use Rattle.node_arena.specs.Arenas.{ChangesNode, ChangesRun, RefusesNodes, RefusesRuns, CanInsert, with_elem, without_elem, with_more, with_less};
 ghost use Rattle.node_arena.specs.Conforming.{IsRising};
+ghost use Rattle.node_arena.specs.Kinds.{longest_of};
+ghost use Rattle.node_arena.specs.Rules.{AreSound, Serves};
 ghost use Rattle.node_arena.specs.declared.sized.TheConstants.{MOST_ELEMENTS};
 
 use crate::elements::Elem;
 use crate::flat_slabs::Runs;
+use crate::kinds::{NodeKind, longest_of};
 use crate::node_views::NodeView;
 use crate::numbers::{NodeId, RunId};
 use crate::searching::search;
@@ -42,6 +45,7 @@ impl Arena {
         requires in_range { longest ≤ MOST_ELEMENTS }
         ensures nodes { result.nodes.slots ≡ [] }
         ensures spare { result.nodes.spare ≡ 0 }
+        ensures places { result.nodes.places ≡ 0 }
         ensures most { longest ≤ result.nodes.most }
         ensures small { result.nodes.most ≤ MOST_ELEMENTS }
         ensures runs { result.runs ≡ record { slots = []; spare = 0; room = 0; places = 0 } }
@@ -51,6 +55,19 @@ impl Arena {
             nodes: Nodes::new(alloc, longest),
             runs: Runs::new(alloc),
         }
+    }
+
+    /// No nodes and no runs, as `new` gives them. A node will have places for the longest run of these kinds, and for at least 2 elements.
+    pub fn for_kinds(alloc: Global, kinds: &[NodeKind]) -> Arena
+        requires sound { AreSound kinds.now }
+        ensures nodes { result.nodes.slots ≡ [] }
+        ensures spare { result.nodes.spare ≡ 0 }
+        ensures places { result.nodes.places ≡ 0 }
+        ensures size { result.nodes.most ≡ places_for (longest_of kinds.now) }
+        ensures serves { Serves kinds.now result }
+        ensures runs { result.runs ≡ record { slots = []; spare = 0; room = 0; places = 0 } }
+    {
+        Arena::new(alloc, longest_of(kinds))
     }
 
     /// Takes memory so that at least so many nodes can be made. That is refused when out of memory, and where there would be more than

@@ -73,7 +73,11 @@ pub enum Side {
 #[derive(Debug, Drop)]
 pub enum Step {
     /// The element is put in.
-    Done,
+    Done {
+        /// How many nodes with two links there are from the root to the new node, both included; 0 if the spine stays. The spine is the greater
+        /// one of what it was and this depth. None if no more is known than that it grew by at most 1.
+        deep: Option<u8>,
+    },
     /// These elements have still to go into the structure at this side of this node.
     Pass {
         /// The node.
@@ -82,5 +86,8 @@ pub enum Step {
         side: Side,
         /// The elements, in ascending order.
         elems: ArrayVec<Elem, 9>,
+        /// How many nodes with two links there are from the root to the node, both included: the depth at that side adds to them. None where
+        /// they weren't counted.
+        above: Option<u8>,
     },
 }

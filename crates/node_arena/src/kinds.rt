@@ -1,8 +1,9 @@
 //! The kinds of a schema, with their links by number.
-ghost use Rattle.std.specs.Prelude.{◌≡◌, ◌<◌, ◌≤◌, IfSome, length, nat_eq, position};
+ghost use Rattle.std.specs.Prelude.{◌≡◌, ◌↔◌, ◌<◌, ◌≤◌, IfSome, IsTrue, length, nat_eq, position};
 ghost use Rattle.std.specs.Cmp.Lexicographic.{pointwise};
 ghost use Rattle.dt_model.specs.declared.limits.TheConstants.{MOST_KINDS};
-ghost use Rattle.node_arena.specs.Kinds.{number_named, shape_of, numbered, kinds_of, root_of, bare_kind, longest_of};
+ghost use Rattle.node_arena.specs.declared.kinds.Shape.TheVariants.{Woven};
+ghost use Rattle.node_arena.specs.Kinds.{number_named, shape_of, numbered, kinds_of, root_of, bare_kind, kind_at, shape_at, longest_of};
 
 use arrayvec::ArrayVec;
 use dt_model::{Kind, Links, MOST_KINDS, Name, Schema};
@@ -121,4 +122,24 @@ pub fn longest_of(kinds: &[NodeKind]) -> u32
         longest = kind.hi.max(longest);
     }
     longest
+}
+
+/// The kind with this number; one without links where there is none.
+pub fn kind_of(kinds: &[NodeKind], kind: u32) -> NodeKind
+    ensures value { result ≡ kind_at kinds.now kind }
+{
+    match kinds.get(kind as usize) {
+        Some(declared) => *declared,
+        None => NodeKind::default(),
+    }
+}
+
+/// Whether the kind with this number is woven.
+pub fn is_woven(kinds: &[NodeKind], kind: u32) -> bool
+    ensures value { IsTrue result ↔ (shape_at kinds.now kind ≡ Woven) }
+{
+    match kind_of(kinds, kind).shape {
+        Shape::Woven => true,
+        _ => false,
+    }
 }

@@ -3,7 +3,7 @@
 //! An `Arena` has the nodes and the flat runs of one mode. `Arena::make`, `put`, `insert`, `remove`, `replace`, `cut` and `set_links`
 //! write one node each, `make_run`, `run_insert`, `run_remove` and `run_replace` one run. What they need is taken before, by `reserve`,
 //! `reserve_runs` and `grow_run`, so none of them takes memory. `Arena::view` gives a node to be read. `kinds_of` gives a schema's kinds with
-//! their links by number, and `longest_of` their longest run, as `Arena::new` wants it.
+//! their links by number, and `Arena::for_kinds` an arena whose nodes have places for their longest run.
 //! Clauses see a `NodeId` or a `RunId` as its number, and an arena as lists of slots by number, with `spare`, `most`, `room` and `places`.
 //! Read `specs/Arenas.antt` first, then `Trees`, `Walks`, `Conforming`, `Structures`, `Insertions` and `Modes`.
 //! Numbers, kinds, places and coordinates count from 0. A node has at most `most` elements, 2, 4, 8 or 16, and one link more. A tick is
@@ -13,6 +13,8 @@
 #![tactic(auto)]
 
 mod arena;
+mod binary_digits;
+mod depths;
 mod elements;
 mod flat_runs;
 mod flat_slabs;
@@ -23,6 +25,7 @@ mod node_slabs;
 mod node_views;
 mod numbers;
 mod packing;
+mod parting;
 mod searching;
 mod sized;
 mod stores;
@@ -30,8 +33,11 @@ mod stores;
 mod tests;
 
 pub use arena::Arena;
+pub use binary_digits::digits;
+pub use depths::wedged;
 pub use elements::{Elem, Held, MOST_SPINE, Side, Step, Structure, Top};
-pub use kinds::{NodeKind, Shape, kinds_of, longest_of, root_of};
+pub use kinds::{NodeKind, Shape, is_woven, kind_of, kinds_of, longest_of, root_of};
 pub use node_views::NodeView;
 pub use numbers::{NodeId, RunId};
+pub use parting::{MOST_TO_PART, copied};
 pub use sized::MOST_ELEMENTS;

@@ -36,6 +36,13 @@ impl<'a> NodeView<'a> {
         NodeView { kind, run, links }
     }
 
+    /// The elements as they are packed.
+    pub(crate) fn packed(&self) -> &[Packed]
+        ensures value { map unpacked result.now ≡ self.now.run }
+    {
+        self.run
+    }
+
     /// The number of the kind.
     pub fn kind(&self) -> u32
         ensures value { result ≡ self.now.kind }

@@ -54,6 +54,7 @@ impl Nodes {
         requires in_range { longest ≤ 16 }
         ensures slots { result.slots ≡ [] }
         ensures spare { result.spare ≡ 0 }
+        ensures places { result.places ≡ 0 }
         ensures most { longest ≤ result.most }
         ensures small { result.most ≤ 16 }
         ensures size { result.most ≡ places_for longest }
@@ -235,6 +236,7 @@ impl Nodes {
 fn store_for(alloc: Global, longest: u32) -> Store
     requires in_range { longest ≤ 16 }
     ensures slots { slots_of result ≡ [] }
+    ensures places { places_of result ≡ 0 }
     ensures most { longest ≤ most_of result }
     ensures small { most_of result ≤ 16 }
     ensures size { most_of result ≡ places_for longest }

@@ -193,7 +193,7 @@ fn a_structure_of_each_shape_has_what_the_list_has(rt: HostRuntime) -> Result<()
         wrong_at(rt.alloc(), &one_kind(1, 1, Shape::Ends { pre: 0, post: 0 }))?,
         None
     );
-    assert_eq!(rt; wrong_at(rt.alloc(), &one_kind(2, 8, Shape::Woven))?, None);
+    assert_eq!(rt; wrong_at(rt.alloc(), &one_kind(4, 8, Shape::Woven))?, None);
     Ok(())
 }
 

@@ -1,10 +1,10 @@
-use Rattle.std.proofs.Common.{◌≡◌, ◌≤◌, length, Some, inl, subst, ap, ◌∙◌, arith}
+use Rattle.std.proofs.Common.{◌≡◌, ◌≤◌, length, Some, inl, refl, subst, sym, ap, ◌∙◌, arith}
 use Rattle.std.specs.List.{insert}
 use Rattle.node_arena.specs.Arenas.{node_at, place_in, ChangesNode}
 use Rattle.node_arena.specs.Kinds.{kind_at}
 use Rattle.chunk_tree.specs.Writes.{HasKindsRun}
 use Rattle.chunk_tree.proofs.Options.{at_known, known, and_known, unknown}
-use Rattle.chunk_tree.proofs.Order.{insert-place_in, place_low}
+use Rattle.node_arena.proofs.PutInLemmas.{place_in-low, put_in-place}
 use Rattle.chunk_tree.proofs.inserting.settle.Goals as goal
 
 pub insert-requires : goal.insert-requires
@@ -16,7 +16,7 @@ insert-requires g c =
     let kind : c.kind.result ≡ k.value.kind = at_known o _ k.value k.is c.kind.ensures.value in
     let hi : c.kind_of-hi.result.hi ≡ (kind_at c.args.kinds.now k.value.kind).hi = ap (λ v. v.hi) c.kind_of-hi.ensures.value
     ∙ ap (λ m. (kind_at c.args.kinds.now m).hi) kind in
-    let low : place_in c.args.elem.at k.value.run ≤ length k.value.run = place_low c.args.elem.at k.value.run in
+    let low : place_in c.args.elem.at k.value.run ≤ length k.value.run = place_in-low c.args.elem.at k.value.run in
     record { there = and_known o _ k.value k.is (omega arith, omega (arith, k.has.serves, c.if-len-hi.true), tt) }
 
 pub returns-then-len-hi : goal.returns-then-len-hi
@@ -28,7 +28,7 @@ returns-then-len-hi g c =
     let kind : c.kind.result ≡ k.value.kind = at_known o _ k.value k.is c.kind.ensures.value in
     let hi : c.kind_of-hi.result.hi ≡ (kind_at c.args.kinds.now k.value.kind).hi = ap (λ v. v.hi) c.kind_of-hi.ensures.value
     ∙ ap (λ m. (kind_at c.args.kinds.now m).hi) kind in
-    let put = ap (λ m. insert k.value.run m c.args.elem) place ∙ insert-place_in c.args.elem k.value.run in
+    let put = ap (λ m. insert k.value.run m c.args.elem) place ∙ sym (put_in-place c.args.elem k.value.run) in
     let ch = at_known o _ k.value k.is c.insert.ensures.node in
     record {
       settles = unknown o _ k.value k.is (inl (
@@ -37,5 +37,6 @@ returns-then-len-hi g c =
           puts = subst (λ r. ChangesNode c.args.arena.now c.insert.new.self c.args.here (Some (record k.value { run = r }))) put ch;
         },
         (record { spare = omega (arith, c.insert.ensures.spare); runs = ch.runs; most = ch.node.most }, c.insert.ensures.steps),
+        refl,
       ));
     }

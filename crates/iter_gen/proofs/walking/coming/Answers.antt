@@ -7,7 +7,7 @@ use Rattle.node_arena.specs.declared.kinds.NodeKind.{NodeKind}
 use Rattle.node_arena.specs.Arenas.{ArenaState}
 use Rattle.iter_gen.specs.declared.paths.NodeSpot.{NodeSpot}
 use Rattle.iter_gen.specs.Frames.{PathHas}
-use Rattle.iter_gen.proofs.PathsLemmas.{Last, last, last-stands, coming-is, EndsIn, ends-in}
+use Rattle.iter_gen.proofs.LastPlaceLemmas.{Last, last, last-stands, coming-is, EndsIn, ends-in}
 use Rattle.iter_gen.proofs.walking.coming.Goals as goal
 
 ending : (path read : List NodeSpot) (spot : NodeSpot) → read ≡ path → Some spot ≡ slice_get read (length read - 1) → EndsIn path spot

@@ -6,7 +6,8 @@ use Rattle.node_arena.specs.Arenas.{ArenaState, coordinate_at}
 use Rattle.iter_gen.specs.declared.paths.NodeSpot.{NodeSpot}
 use Rattle.iter_gen.specs.Frames.{PathHas, IsToEnter, StartsFrom, from, ahead}
 use Rattle.iter_gen.proofs.FromLemmas.{from-starts}
-use Rattle.iter_gen.proofs.PathsLemmas.{Last, last, leaves, outer, outer-rising, searches, starts-none, starts-some, none-left}
+use Rattle.iter_gen.proofs.PathsLemmas.{none-left}
+use Rattle.iter_gen.proofs.LastPlaceLemmas.{Last, last, leaves, outer, outer-rising, searches, starts-none, starts-some}
 use Rattle.iter_gen.proofs.walking.leave.Goals as goal
 use Rattle.iter_gen.proofs.walking.leave.Goals.{in_default-via-in-Some+else-first-at, in_default-via-in_default}
 use Rattle.iter_gen.proofs.walking.leave.Goals.{in_default-coming-via-in-Some-coming+else-next-at, in_default-coming-via-in_default-coming}

@@ -6,7 +6,7 @@ use Rattle.node_arena.specs.declared.kinds.NodeKind.{NodeKind}
 use Rattle.node_arena.specs.Arenas.{ArenaState}
 use Rattle.iter_gen.specs.declared.paths.NodeSpot.{NodeSpot}
 use Rattle.iter_gen.specs.Frames.{PathHas}
-use Rattle.iter_gen.proofs.PathsLemmas.{Last, last, last-stands, stays-there, goes-on-there, takes, low-place, last-short, go-some, go-none, none-left}
+use Rattle.iter_gen.proofs.LastPlaceLemmas.{Last, last, last-stands, stays-there, goes-on-there, takes, low-place, last-short}
 use Rattle.iter_gen.proofs.walking.step.Goals as goal
 
 -- the path that was given, by its last place
@@ -15,8 +15,8 @@ last_of : (s : List NodeKind) (a : ArenaState) (path before : List NodeSpot) (sp
     → Last s a before spot xs
 last_of s a path before spot xs e h = last s a before spot xs (subst (λ p. PathHas s a p xs) e h)
 
-pub elem-elem-requires : goal.elem-elem-requires
-elem-elem-requires c = record {
+pub view-node-requires : goal.view-node-requires
+view-node-requires c = record {
   there = ∥∥₁_elim c.requires.there (hlevel props) (λ p.
       subst IsSome (sym (last-stands _ _ _ _ _ (last_of _ _ _ _ _ _ c.in-Some.ensures.items p.1))) refl);
 }
@@ -28,41 +28,21 @@ pub push-requires : goal.push-requires
 push-requires c =
     (lit< tt, ∥∥₁_elim c.requires.there (hlevel props) (λ p. last-short _ _ _ _ _ (last_of _ _ _ _ _ _ c.in-Some.ensures.items p.1)))
 
-pub enter-requires : goal.enter-requires
-enter-requires c = record {
-  there = ∥∥₁_map c.requires.there (λ p. (0, _, goes-on-there _ _ _ _ _ (last_of _ _ _ _ _ _ c.in-Some.ensures.items p.1)));
-}
-
-pub sink-requires : goal.sink-requires
-sink-requires c = record {
-  there = ∥∥₁_map c.requires.there (λ p. (
-    _,
-    go-some _ _ _ _ _ _ _ c.in-Some-enter.is
-        (c.enter.ensures.down 0 _ (goes-on-there _ _ _ _ _ (last_of _ _ _ _ _ _ c.in-Some.ensures.items p.1))),
-  ));
+pub pass-requires : goal.pass-requires
+pass-requires c = record {
+  there = ∥∥₁_map c.requires.there (λ p. (_, goes-on-there _ _ _ _ _ (last_of _ _ _ _ _ _ c.in-Some.ensures.items p.1)));
 }
 
 pub returns-then-place-spot : goal.returns-then-place-spot
 returns-then-place-spot c = record {
   next = λ xs h.
       let l = last_of _ _ _ _ _ xs c.in-Some.ensures.items h in
-      takes _ _ _ _ _ l _ _ c.elem-elem.ensures.value (rw c.push.ensures.items (stays-there _ _ _ _ _ l c.if-place-spot.true));
+      takes _ _ _ _ _ l _ c.view-node.ensures.value _ _ c.elem-elem.ensures.value (rw c.push.ensures.items (stays-there _ _ _ _ _ l c.if-place-spot.true));
 }
 
-pub returns-in-Some-enter : goal.returns-in-Some-enter
-returns-in-Some-enter c = record {
+pub returns-else-place-spot : goal.returns-else-place-spot
+returns-else-place-spot c = record {
   next = λ xs h.
       let l = last_of _ _ _ _ _ xs c.in-Some.ensures.items h in
-      takes _ _ _ _ _ l _ _ c.elem-elem.ensures.value
-      (c.sink.ensures.left _ (go-some _ _ _ _ _ _ _ c.in-Some-enter.is
-      (c.enter.ensures.down 0 _ (goes-on-there _ _ _ _ _ l))));
-}
-
-pub returns-in_default : goal.returns-in_default
-returns-in_default c = record {
-  next = λ xs h.
-      let l = last_of _ _ _ _ _ xs c.in-Some.ensures.items h in
-      takes _ _ _ _ _ l _ _ c.elem-elem.ensures.value
-      (go-none _ _ _ _ _ _ (none-left c.enter.result c.in_default.not-Some)
-      (c.enter.ensures.down 0 _ (goes-on-there _ _ _ _ _ l)));
+      takes _ _ _ _ _ l _ c.view-node.ensures.value _ _ c.elem-elem.ensures.value (c.pass.ensures.left _ (goes-on-there _ _ _ _ _ l));
 }

@@ -1,4 +1,4 @@
-use Rattle.std.proofs.Common.{◌≡◌, ◌≤◌, ◌+◌, ◌*◌, ◌++◌, [], ◌∷◌, length, ap, ◌∙◌, sym, subst, arith}
+use Rattle.std.proofs.Common.{◌≡◌, ◌++◌, [], ◌∷◌, length, ap, ◌∙◌, sym, subst, arith}
 use Rattle.node_arena.specs.Conforming.{IsRising}
 use Rattle.structure_bench.specs.Numbered.{numbered_from}
 use Rattle.structure_bench.proofs.NumberedLemmas.{numbered, numbered-snoc, numbered-rising, numbered-length}

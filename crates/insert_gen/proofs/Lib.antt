@@ -1,0 +1,11 @@
+pub mod NeedsLemmas
+pub mod FirstLemmas
+pub mod SpineLemmas
+pub mod RunLemmas
+pub mod BelowLemmas
+pub mod PassingLemmas
+pub mod TopLemmas
+pub mod HoleLemmas
+pub mod SetLemmas
+pub mod ReplaceLemmas
+pub mod TrialLemmas
