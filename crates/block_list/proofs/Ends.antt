@@ -9,13 +9,14 @@ use Rattle.node_arena.specs.Arenas.{ArenaState, NodeState, node_at, ChangesNode}
 use Rattle.node_arena.specs.Conforming.{Hang, IsLevel, spine, whole}
 use Rattle.node_arena.specs.Insertions.{put_in, all_put_in}
 use Rattle.node_arena.specs.Kinds.{kind_at, shape_at}
-use Rattle.node_arena.specs.Passing.{PutsAt, IsDone, Deepens, wedge_depth}
+use Rattle.std.specs.Option.{IsSomeAnd}
+use Rattle.node_arena.specs.Passing.{PutsAt, IsDone, Deepens, GoesDeep, wedge_depth}
 use Rattle.node_arena.specs.Rules.{post_of}
 use Rattle.node_arena.specs.Trees.{Trees, done, absent, node, roots, stored, Stands, Avoids, IsReachedOnce}
 use Rattle.node_arena.specs.Walks.{walk}
-use Rattle.node_arena.proofs.ChangesLemmas.{node_differs}
-use Rattle.node_arena.proofs.DepthsLemmas.{Deepens-same, wedge_depth-ends}
-use Rattle.node_arena.proofs.FramesLemmas.{Stands-changed, Avoids-free, IsApart-done}
+use Rattle.node_arena.proofs.ChangesLemmas.{node_differs, ChangesOnly-change}
+use Rattle.node_arena.proofs.DepthsLemmas.{Deepens-same, wedge_depth-ends, wedge_depth-pushes, GoesDeep-told, GoesDeep-within}
+use Rattle.node_arena.proofs.FramesLemmas.{Stands-changed, Avoids-free, Avoids-root, IsApart-done}
 use Rattle.block_list.specs.Chains.{links_behind}
 use Rattle.block_list.proofs.Parts.{hang-chain, hang-post, hang-ends, level-post, level-ends, spine-post, spine-ends}
 use Rattle.block_list.proofs.Walks.{walk-chain, walk-half}
@@ -41,11 +42,12 @@ module _ (s : List NodeKind) (x : Elem) (i k p : ℕ) (run : List Elem) (ls : Tr
       → IsSome (node_at b i) → ((j : ℕ) → j ≢ i → node_at b j ≡ node_at a j)
       → PutsAt s p b c xs ls v → roots v ≡ top ∷ []
       → ChangesNode c d i (Some (record { kind = k; run = cut; links = slice_set (roots ls) 0 top }))
-      → (deep : Option ℕ) → Deepens deep (spine s ls) (spine s v) → IsDone s a d x (node i k run ls done) deep
-  linked a b c d cut xs r top v l one low high put some same w root e deep deepens =
+      → (deep : Option ℕ) → GoesDeep s b c ls v deep → IsDone s a d x (node i k run ls done) deep
+  linked a b c d cut xs r top v l one low high put some same w root e deep goes =
       let tops : slice_set (roots ls) 0 top ≡ roots v = ap (λ ts. slice_set ts 0 top) one ∙ sym root in
       let at : node_at d i ≡ Some (stored k cut v) = e.node.changed ∙ ap (λ ts. Some (record { kind = k; run = cut; links = ts })) tops in
-      let away : Avoids i v = w.news i some l.once.0 in
+      let away : Avoids i v = w.only.news i some l.once.0 in
+      let taken = λ (j : ℕ) (free : node_at b j ≡ None). node_differs b i j some free in
       record {
         tree = node i k cut v done;
         same_root = refl;
@@ -59,15 +61,20 @@ module _ (s : List NodeKind) (x : Elem) (i k p : ℕ) (run : List Elem) (ls : Tr
               let h : spine s v ≤ 1 + spine s ls = w.spine_low in
               omega arith;
           walk_is = walk-chain s i k p cut v l.shape ∙ ap (λ es. cut ++ es) w.walk_is ∙ put ∙ ap (put_in x) (sym (walk-chain s i k p run ls l.shape));
-          keeps = λ j h away_j.
-              let off : j ≢ i = λ f. away_j.0 (sym f) in
-              e.node.others j off ∙ w.keeps j (subst IsSome (sym (same j off)) h) away_j.1 ∙ same j off;
-          news = λ j h away_j.
-              let off : j ≢ i = λ f. away_j.0 (sym f) in
-              (away_j.0, w.news j (subst IsSome (sym (same j off)) h) away_j.1, tt);
+          only = record {
+            others = λ j old new.
+                let off : j ≢ i = λ f. old.0 (sym f) in
+                e.node.others j off ∙ w.only.others j old.1 new.1 ∙ same j off;
+            stays = λ j new. (new.0, w.only.stays j new.1, tt);
+            news = λ j h old.
+                let off : j ≢ i = λ f. old.0 (sym f) in
+                (old.0, w.only.news j (subst IsSome (sym (same j off)) h) old.1, tt);
+          };
         };
-        deepens = Deepens-same deep (spine s ls) (spine s v) (spine s (node i k run ls done)) (spine s (node i k cut v done))
-            (spine-post s i k p run ls l.shape) (spine-post s i k p cut v l.shape) deepens;
+        goes = GoesDeep-within s a b c d ls v (node i k run ls done) (node i k cut v done) deep deep goes
+            (Deepens-same deep (spine s ls) (spine s v) (spine s (node i k run ls done)) (spine s (node i k cut v done))
+            (spine-post s i k p run ls l.shape) (spine-post s i k p cut v l.shape) goes.deepens)
+            (λ none. none) (λ j free. sym (same j (taken j free)) ∙ free) (λ j free. e.node.others j (taken j free)) (λ j old. old.1) (λ j new. new.1);
       }
 
   -- the run takes x
@@ -86,11 +93,12 @@ module _ (s : List NodeKind) (x : Elem) (i k p : ℕ) (run : List Elem) (ls : Tr
           let g : spine s (node i k run ls done) ≡ spine s ls = spine-post s i k p run ls l.shape in
           omega arith;
       walk_is = walk-chain s i k p wider ls l.shape ∙ put ∙ ap (put_in x) (sym (walk-chain s i k p run ls l.shape));
-      keeps = λ j h away. e.node.others j (λ f. away.0 (sym f));
-      news = λ j h away. away;
+      only = ChangesOnly-change a b (node i k run ls done) (node i k wider ls done) i (Some (stored k wider ls)) e (λ new. new.0 refl) (λ j new. new)
+          (λ j h old. old);
     };
-    deepens = Deepens-same (Some 0) (spine s ls) (spine s ls) (spine s (node i k run ls done)) (spine s (node i k wider ls done))
-        (spine-post s i k p run ls l.shape) (spine-post s i k p wider ls l.shape) (omega arith);
+    goes = GoesDeep-told s a b (node i k run ls done) (node i k wider ls done) 0 (Deepens-same (Some 0) (spine s ls) (spine s ls)
+        (spine s (node i k run ls done)) (spine s (node i k wider ls done))
+        (spine-post s i k p run ls l.shape) (spine-post s i k p wider ls l.shape) (omega arith));
   }
 
   -- a new node of the kind behind, whose links are as the kind has them
@@ -104,6 +112,8 @@ module _ (s : List NodeKind) (x : Elem) (i k p : ℕ) (run : List Elem) (ls : Tr
     pub walk_is : walk s (node j p upper behind done) ≡ upper ++ walk s ls
     pub stands : (a : ArenaState) → Stands a ls → Stands a behind
     pub away : (m : ℕ) → Avoids m ls → Avoids m behind
+    pub stays : (m : ℕ) → Avoids m behind → Avoids m ls
+    pub leads : roots ls ≡ r ∷ []
     pub once : IsReachedOnce ls → IsReachedOnce behind
 
   -- such a node, for a kind that is its own kind behind
@@ -126,6 +136,8 @@ module _ (s : List NodeKind) (x : Elem) (i k p : ℕ) (run : List Elem) (ls : Tr
         walk_is = walk-chain s j p p upper ls shape;
         stands = λ a st. st;
         away = λ m v. v;
+        stays = λ m v. v;
+        leads = one;
         once = λ o. o;
       }
   behind-node j upper r (Ends q0 q) e own one lo low high h =
@@ -142,6 +154,8 @@ module _ (s : List NodeKind) (x : Elem) (i k p : ℕ) (run : List Elem) (ls : Tr
         walk_is = walk-half s j p q0 p upper ls shape;
         stands = λ a st. st;
         away = λ m v. v;
+        stays = λ m v. v;
+        leads = one;
         once = λ o. o;
       }
 
@@ -180,10 +194,20 @@ module _ (s : List NodeKind) (x : Elem) (i k p : ℕ) (run : List Elem) (ls : Tr
               omega arith;
           walk_is = walk-chain s i k p lower (node j p upper w.behind done) l.shape ∙ ap (λ es. lower ++ es) w.walk_is ∙ put
               ∙ ap (put_in x) (sym (walk-chain s i k p run ls l.shape));
-          keeps = λ m h away. e2.node.others m (λ f. away.0 (sym f)) ∙ e1.node.others m (λ f. node_differs a m j h free (sym f));
-          news = λ m h away. (away.0, (node_differs a m j h free, w.away m away.1, tt), tt);
+          only = record {
+            others = λ m old now. e2.node.others m (λ f. now.0 (sym f)) ∙ e1.node.others m (λ f. now.1.0 (sym f));
+            stays = λ m now. (now.0, w.stays m now.1.1, tt);
+            news = λ m h old. (old.0, (node_differs a m j h free, w.away m old.1, tt), tt);
+          };
         };
-        deepens = Deepens-same (wedge_depth (shape_at s p) (is_some r) 0) (spine s ls) (spine s (node j p upper w.behind done)) (spine s (node i k run ls done))
-            (spine s (node i k lower (node j p upper w.behind done) done)) (spine-post s i k p run ls l.shape)
-            (spine-post s i k p lower (node j p upper w.behind done) l.shape) w.deepens;
+        goes = record {
+          deepens = Deepens-same (wedge_depth (shape_at s p) (is_some r) 0) (spine s ls) (spine s (node j p upper w.behind done))
+              (spine s (node i k run ls done))
+              (spine s (node i k lower (node j p upper w.behind done) done)) (spine-post s i k p run ls l.shape)
+              (spine-post s i k p lower (node j p upper w.behind done) l.shape) w.deepens;
+          pushes = wedge_depth-pushes a b (node i k run ls done) (node i k lower (node j p upper w.behind done) done) (shape_at s p) r j 0 free
+              (λ now. now.1.0 refl) (λ m is old. Avoids-root ls m [] (w.leads ∙ ap (λ l. l ∷ []) is) old.1)
+              (λ q0 q m sh is. subst (λ o. IsSomeAnd o (λ n. n.links ≡ None ∷ Some m ∷ [])) (sym new)
+              (w.links ∙ ap (λ sh. links_behind sh r) sh ∙ ap (λ l. None ∷ l ∷ []) is));
+        };
       }

@@ -162,7 +162,7 @@ module _ (s : List NodeKind) (sound : AreSound s) (a b : ArenaState) (x : Elem) 
     pub put-holds : x.at < length marks → get_or marks x.at false ≡ false → IsLow s (n + 1) → (step : Step) (m p : ℕ) → Leaves s a b x t step m p
         → HoldsAfter s b i (n + 1) (set marks x.at true) step
     put-holds l free low (Done deep) m p d = (d.tree, done-holds l free low deep d)
-    put-holds l free low (Pass j at_side xs above) m p q = some-node b j q.passer q.there
+    put-holds l free low (Pass j at_side xs above) m p q = some-node b j q.on.passer q.on.there
 
     -- one more is counted
     pub still-holds : Holds s a i (n + 1) marks t

@@ -1,11 +1,9 @@
 -- Where an element goes in a run that rises, and in what follows it.
-use Rattle.std.proofs.Common.{◌≡◌, ◌≤◌, ◌<◌, ◌+◌, ◌-◌, inl, inr, ℕ, zero, suc, List, [], ◌∷◌, ◌++◌, length, take, Some, refl, ap, ◌∙◌, sym, subst, arith, Bool, true, false, ltb, cond}
+use Rattle.std.proofs.Common.{◌≡◌, ◌≤◌, ◌<◌, ◌-◌, inl, inr, ℕ, List, [], ◌∷◌, ◌++◌, length, Some, refl, ap, subst, arith, Bool, true, false, ltb, cond}
 use Rattle.node_arena.specs.declared.elements.Elem.{Elem}
-use Rattle.std.specs.Prelude.{slice_get}
-use Rattle.node_arena.specs.Arenas.{place_in, coordinate_at}
+use Rattle.node_arena.specs.Arenas.{coordinate_at}
 use Rattle.node_arena.specs.Conforming.{RisesFrom, IsRising}
 use Rattle.node_arena.specs.Insertions.{put_in}
-use Rattle.node_arena.specs.Passing.{AllLack}
 use Rattle.node_arena.proofs.PutInLemmas.{RisesFrom-suffix}
 use Rattle.block_list.specs.Chains.{AllBelow, Stops, first_of}
 

@@ -11,7 +11,7 @@ use Rattle.node_arena.specs.Arenas.{ArenaState, NodeState, node_at}
 use Rattle.node_arena.specs.Conforming.{Conform, Hang, IsLevel, IsRising, spine, whole, least_of}
 use Rattle.node_arena.specs.Insertions.{put_in, all_put_in, Lacks}
 use Rattle.node_arena.specs.Kinds.{kind_at, shape_at}
-use Rattle.node_arena.specs.Passing.{discipline, chains, link_at, link_total, CanPutIn, IsDone, IsPassed, GoesOn, AllLack, deeper}
+use Rattle.node_arena.specs.Passing.{discipline, chains, link_at, link_total, CanPutIn, IsDone, IsPassed, GoesOn, AllLack}
 use Rattle.node_arena.specs.Rules.{AreSound, HasSoundLinks, MayFollow}
 use Rattle.node_arena.specs.Trees.{Trees, done, node, roots, stored, Stands, IsReachedOnce}
 use Rattle.node_arena.specs.Walks.{walk}
@@ -90,27 +90,31 @@ module _ (s : List NodeKind) (a : ArenaState) (x : Elem) (i k : ℕ) (run : List
       → Stands b ls → 1 ≤ length cut → length cut ≤ (kind_at s k).hi → cut ++ all_put_in xs (walk s ls) ≡ put_in x (run ++ walk s ls)
       → xs ≢ [] → IsRising (cut ++ xs) → AllLack xs (walk s ls) → length xs ≤ length run
       → GoesOn s a b x i (stored k cut ls) o.post xs n m → b.nodes.spare ≡ a.nodes.spare
-      → IsPassed s a b x (node i k run ls done) i side.Post xs (Some 0) n m
+      → IsPassed s a b x (node i k run ls done) i side.Post xs 0 n m
   passed b cut xs n m other at same st low high put some beside lack few on spare = record {
-    passer = stored k cut ls;
-    there = at;
-    link = record { place = 0; kind = o.post };
-    has_link = ap (λ sh. link_at sh side.Post) o.link.shape;
-    width = ap length behind-root.1 ∙ ap link_total (sym o.link.shape);
-    other = λ e. other (e ∙ ap discipline o.link.shape);
-    below = ls;
-    leads = link-same behind-root.0 (roots ls) behind-root.1;
-    stands = st;
-    once = o.link.once.3;
-    away = o.link.once.0;
-    conforms = behind-conforms;
-    spine_low = let f : spine s (node i k run ls done) ≡ spine s ls = spine-post s i k o.post run ls o.link.shape in omega arith;
-    some = some;
-    beside = beside;
-    lack = lack;
-    counted =
-        let f : length (walk s (node i k run ls done)) ≡ length run + length (walk s ls) = ap length walk_is ∙ length-append run (walk s ls) in
-        omega arith;
+    on = record {
+      passer = stored k cut ls;
+      there = at;
+      link = record { place = 0; kind = o.post };
+      has_link = ap (λ sh. link_at sh side.Post) o.link.shape;
+      width = ap length behind-root.1 ∙ ap link_total (sym o.link.shape);
+      other = λ e. other (e ∙ ap discipline o.link.shape);
+      below = ls;
+      leads = link-same behind-root.0 (roots ls) behind-root.1;
+      stands = st;
+      once = o.link.once.3;
+      away = o.link.once.0;
+      conforms = behind-conforms;
+      spine_low = let f : spine s (node i k run ls done) ≡ spine s ls = spine-post s i k o.post run ls o.link.shape in omega arith;
+    };
+    can = record {
+      some = some;
+      beside = beside;
+      lack = lack;
+      counted =
+          let f : length (walk s (node i k run ls done)) ≡ length run + length (walk s ls) = ap length walk_is ∙ length-append run (walk s ls) in
+          omega arith;
+    };
     goes_on = on;
     spare = spare;
     lift = λ c d v top w root e deep h. subst (IsDone s a d x (node i k run ls done)) (sym (deeper-first deep))

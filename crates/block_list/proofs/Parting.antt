@@ -15,11 +15,11 @@ use Rattle.node_arena.specs.Arenas.{ArenaState, NodeState, node_at, place_in, Ch
 use Rattle.node_arena.specs.Conforming.{IsLevel, IsRising}
 use Rattle.node_arena.specs.Insertions.{put_in, DifferInFew}
 use Rattle.node_arena.specs.Kinds.{kind_at, shape_at}
-use Rattle.node_arena.specs.Passing.{discipline, chains, weaves, IsDone, IsPassed, Leaves, IsTold, wedge_depth}
+use Rattle.node_arena.specs.Passing.{discipline, chains, weaves, IsDone, IsPassed, Leaves, wedge_depth}
 use Rattle.node_arena.specs.Rules.{AreSound, Serves, HasSoundLinks, MayFollow, post_of}
 use Rattle.node_arena.specs.Trees.{Trees, done, node, roots, stored}
 use Rattle.node_arena.specs.Walks.{walk}
-use Rattle.node_arena.proofs.ChangesLemmas.{node_differs, DifferInFew-one, DifferInFew-then, DifferInFew-wider}
+use Rattle.node_arena.proofs.ChangesLemmas.{DifferInFew-one, DifferInFew-then, DifferInFew-wider}
 use Rattle.node_arena.proofs.FramesLemmas.{Stands-changed}
 use Rattle.node_arena.proofs.PutInLemmas.{AllLack-before, append-Lacks, IsRising-suffix, IsRising-prefix, IsRising-put_in, length-put_in, all_put_in-first, place_in-low, put_in-place}
 use Rattle.block_list.specs.Chains.{AllBelow, link_of, links_behind, HasChainBehind, Turns, Comes, Finds}
@@ -78,25 +78,6 @@ pub behind-passes : (s : List NodeKind) (at : ℕ) (o : Option NodeState) → Is
     → IfSome o (λ n. (AllBelow at n.run × (link_of n ≢ None)) ⊎ ((kind_at s n.kind).hi ≤ length n.run))
 behind-passes s at None h = tt
 behind-passes s at (Some n) h = inl (h.0, h.1)
-
--- where a depth isn't told, the new node has pushed something down
-pub parts-told : (a c b : ArenaState) (i j : ℕ) (shape : Shape) (link : Option ℕ) (step : Step) (kind : ℕ) (upper : List Elem) (old : Option NodeState)
-    → step ≡ Done (wedge_depth shape (is_some link) 0) → node_at a j ≡ None → IsSome (node_at a i)
-    → ChangesNode a c j (Some (record { kind = kind; run = upper; links = links_behind shape link })) → ChangesNode c b i old → IsTold a b step
-parts-told a c b i j shape link step kind upper old e free some e1 e2 = subst (IsTold a b) (sym e) (told shape link e1)
-  where
-    told : (sh : Shape) (l : Option ℕ) → ChangesNode a c j (Some (record { kind = kind; run = upper; links = links_behind sh l }))
-        → IsTold a b (Done (wedge_depth sh (is_some l) 0))
-    told Flat l e1 = tt
-    told (Post p) l e1 = tt
-    told (Ends p q) None e1 = tt
-    told (Ends p q) (Some m) e1 = (
-      j,
-      m,
-      free,
-      subst (λ o. IsSomeAnd o (λ n. n.links ≡ None ∷ Some m ∷ [])) (sym (e2.node.others j (node_differs a i j some free) ∙ e1.node.changed)) refl,
-    )
-    told Woven l e1 = tt
 
 -- one node that is there has changed
 pub few-one : (a b : ArenaState) (i : ℕ) (o : Option NodeState) (F : NodeState → Option NodeState) → IsSome o → IfSome o (λ n. ChangesNode a b i (F n))
@@ -244,13 +225,13 @@ module _ (s : List NodeKind) (a : ArenaState) (x : Elem) (sound : AreSound s) wh
       -- the upper half goes on into a woven structure
       pub part-pass : (b : ArenaState) (elems : ArrayVec Elem) (n m : ℕ) → shape_at s post ≡ Woven
           → ChangesNode a b i (Some (node_of kind lower (link ∷ []))) → b.nodes.spare ≡ a.nodes.spare → m ≡ n + 1 → elems.items ≡ upper
-          → Leaves s a b x t (Pass i side.Post elems (Some 0)) n m
+          → Leaves s a b x t (Pass i side.Post elems 0) n m
       part-pass b elems n m woven e spare ticks same =
           let shape : shape_at s o.post ≡ Woven = ap (shape_at s) (sym h.post_kind) ∙ woven in
           let cut : ChangesNode a b i (Some (stored c.here.kind lower c.here.links)) =
           subst (λ q. ChangesNode a b i (Some q)) (cut-node kind (link ∷ []) h.kind h.link_is) e in
           let w : List Elem = walk s c.here.links in
-          let q : IsPassed s a b x (node i c.here.kind c.here.run c.here.links done) i side.Post upper (Some 0) n m =
+          let q : IsPassed s a b x (node i c.here.kind c.here.run c.here.links done) i side.Post upper 0 n m =
           passed s a x i c.here.kind c.here.run c.here.links o b lower upper n m
           (λ f. let g : weaves ≡ chains = ap discipline (sym shape) ∙ f in cc)
           cut.node.changed
@@ -264,9 +245,9 @@ module _ (s : List NodeKind) (a : ArenaState) (x : Elem) (sound : AreSound s) wh
           h.fewer
           (inr (shape, cut, ticks))
           spare in
-          c.lift b (Pass i side.Post elems (Some 0)) n m
-          (subst (λ u. IsPassed s a b x u i side.Post elems.items (Some 0) n m) (sym c.here.is)
-          (subst (λ xs. IsPassed s a b x (node i c.here.kind c.here.run c.here.links done) i side.Post xs (Some 0) n m) (sym same) q))
+          c.lift b (Pass i side.Post elems 0) n m
+          (subst (λ u. IsPassed s a b x u i side.Post elems.items 0 n m) (sym c.here.is)
+          (subst (λ xs. IsPassed s a b x (node i c.here.kind c.here.run c.here.links done) i side.Post xs 0 n m) (sym same) q))
 
       -- the upper half is in a new node
       pub part-done : (c1 b : ArenaState) (j n m : ℕ) → (shape_at s post ≡ Woven → ⊥) → node_at a j ≡ None
@@ -288,14 +269,14 @@ module _ (s : List NodeKind) (a : ArenaState) (x : Elem) (sound : AreSound s) wh
 
   -- x alone goes on behind the run
   pub alone-pass : (i : ℕ) (t : Trees) (elems : ArrayVec Elem) (n : ℕ) → Finds s a x t (Behind i) → elems.items ≡ x ∷ []
-      → Leaves s a a x t (Pass i side.Post elems (Some 0)) n n
+      → Leaves s a a x t (Pass i side.Post elems 0) n n
   alone-pass i t elems n f same =
       let c : Comes s a x i t = f.0 in
       let o = open-here s a x sound i t c in
       let turn : Turns s x.at (stored c.here.kind c.here.run c.here.links) turns.Behind =
       subst (λ q. IsSomeAnd q (λ n. Turns s x.at n turns.Behind)) o.link.stands.0 f.1 in
       let w : List Elem = walk s c.here.links in
-      let q : IsPassed s a a x (node i c.here.kind c.here.run c.here.links done) i side.Post (x ∷ []) (Some 0) n n =
+      let q : IsPassed s a a x (node i c.here.kind c.here.run c.here.links done) i side.Post (x ∷ []) 0 n n =
       passed s a x i c.here.kind c.here.run c.here.links o a c.here.run (x ∷ []) n n
       (λ e. turn.2 (subst (HasChainBehind s) (sym o.link.shape) e))
       o.link.stands.0 (λ j h. refl) o.link.stands.1 o.link.low o.link.high
@@ -306,6 +287,6 @@ module _ (s : List NodeKind) (a : ArenaState) (x : Elem) (sound : AreSound s) wh
       o.link.low
       (inl (refl, refl, refl))
       refl in
-      c.lift a (Pass i side.Post elems (Some 0)) n n
-      (subst (λ u. IsPassed s a a x u i side.Post elems.items (Some 0) n n) (sym c.here.is)
-      (subst (λ xs. IsPassed s a a x (node i c.here.kind c.here.run c.here.links done) i side.Post xs (Some 0) n n) (sym same) q))
+      c.lift a (Pass i side.Post elems 0) n n
+      (subst (λ u. IsPassed s a a x u i side.Post elems.items 0 n n) (sym c.here.is)
+      (subst (λ xs. IsPassed s a a x (node i c.here.kind c.here.run c.here.links done) i side.Post xs 0 n n) (sym same) q))

@@ -13,6 +13,8 @@ use Rattle.node_arena.specs.Passing.{discipline, chains, CanPutIn, IsDone, IsPas
 use Rattle.node_arena.specs.Rules.{AreSound}
 use Rattle.node_arena.specs.Trees.{Trees, done, absent, node, roots, stored, Stands}
 use Rattle.node_arena.specs.Walks.{walk}
+use Rattle.node_arena.proofs.ChangesLemmas.{KeepsOutside-only}
+use Rattle.node_arena.proofs.InsertionsLemmas.{PutsAt-PutsIn}
 use Rattle.node_arena.proofs.PlacesLemmas.{hang-none}
 use Rattle.node_arena.proofs.PutInLemmas.{append-Lacks, IsRising-prefix}
 use Rattle.block_list.specs.Chains.{AllBelow, first_of, first_at, link_of, HasChainBehind, Turns, Comes}
@@ -90,61 +92,57 @@ module _ (s : List NodeKind) (a : ArenaState) (x : Elem) (i k : ℕ) (run : List
   done-next b deep d =
       let r = behind-root s a x i k run ls o in
       let some : IsSome (node_at a i) = some-node a i (stored k run ls) o.link.stands.0 in
-      let at : node_at b i ≡ Some (stored k run ls) = d.puts.keeps i some o.link.once.0 ∙ o.link.stands.0 in
+      let at : node_at b i ≡ Some (stored k run ls) = KeepsOutside-only a b ls d.tree d.puts.only i some o.link.once.0 ∙ o.link.stands.0 in
       let tops : roots ls ≡ slice_set (roots ls) 0 r.0 = subst (λ ts. ts ≡ slice_set ts 0 r.0) (sym r.1) refl in
       linked s x i k o.post run ls a a b b run (x ∷ []) r.0 r.0 d.tree o.link r.1 o.link.low o.link.high (sym (put_in-past x run (walk s ls) below)) some
       (λ j h. refl)
-      (record {
-        stands = d.puts.stands;
-        once = d.puts.once;
-        hangs = d.puts.hangs o.post o.link.links;
-        level = d.puts.level o.level;
-        spine_low = d.puts.spine_low;
-        walk_is = d.puts.walk_is;
-        keeps = d.puts.keeps;
-        news = d.puts.news;
-      })
+      (PutsAt-PutsIn s o.post a b (x ∷ []) ls d.tree d.puts o.link.links o.level)
       (d.same_root ∙ r.1)
       (record {
         node = record {
           changed = at ∙ ap (λ ts. Some (record { kind = k; run = run; links = ts })) tops;
           others = λ j h. refl;
           most = refl;
+          places = refl;
         };
         runs = refl;
       })
-      deep d.deepens
+      deep d.goes
 
   walk_is : walk s (node i k run ls done) ≡ run ++ walk s ls
   walk_is = walk-chain s i k o.post run ls o.link.shape
 
   -- what is passed on behind the run is passed on by the whole
-  passed-next : (b : ArenaState) (j : ℕ) (at_side : Side) (xs : List Elem) (above : Option ℕ) (n m : ℕ) → IsPassed s a b x ls j at_side xs above n m
+  passed-next : (b : ArenaState) (j : ℕ) (at_side : Side) (xs : List Elem) (above n m : ℕ) → IsPassed s a b x ls j at_side xs above n m
       → IsPassed s a b x (node i k run ls done) j at_side xs above n m
   passed-next b j at_side xs above n m q = record {
-    passer = q.passer;
-    there = q.there;
-    link = q.link;
-    has_link = q.has_link;
-    width = q.width;
-    other = q.other;
-    below = q.below;
-    leads = q.leads;
-    stands = q.stands;
-    once = q.once;
-    away = q.away;
-    conforms = q.conforms;
-    spine_low =
-        let f : spine s (node i k run ls done) ≡ spine s ls = spine-post s i k o.post run ls o.link.shape in
-        let g : spine s q.below ≤ spine s ls = q.spine_low in
-        omega arith;
-    some = q.some;
-    beside = q.beside;
-    lack = q.lack;
-    counted =
-        let f : length (walk s (node i k run ls done)) ≡ length run + length (walk s ls) = ap length walk_is ∙ length-append run (walk s ls) in
-        let g : length xs + length (walk s q.below) ≤ length (walk s ls) = q.counted in
-        omega arith;
+    on = record {
+      passer = q.on.passer;
+      there = q.on.there;
+      link = q.on.link;
+      has_link = q.on.has_link;
+      width = q.on.width;
+      other = q.on.other;
+      below = q.on.below;
+      leads = q.on.leads;
+      stands = q.on.stands;
+      once = q.on.once;
+      away = q.on.away;
+      conforms = q.on.conforms;
+      spine_low =
+          let f : spine s (node i k run ls done) ≡ spine s ls = spine-post s i k o.post run ls o.link.shape in
+          let g : spine s q.on.below ≤ spine s ls = q.on.spine_low in
+          omega arith;
+    };
+    can = record {
+      some = q.can.some;
+      beside = q.can.beside;
+      lack = q.can.lack;
+      counted =
+          let f : length (walk s (node i k run ls done)) ≡ length run + length (walk s ls) = ap length walk_is ∙ length-append run (walk s ls) in
+          let g : length xs + length (walk s q.on.below) ≤ length (walk s ls) = q.can.counted in
+          omega arith;
+    };
     goes_on = q.goes_on;
     spare = q.spare;
     lift = λ c d v top w root e deep h. done-next d (deeper above deep) (q.lift c d v top w root e deep h);

@@ -6,7 +6,7 @@ ghost use Rattle.node_arena.specs.Insertions.{DifferInFew};
 ghost use Rattle.node_arena.specs.Kinds.{kind_at, shape_at};
 ghost use Rattle.node_arena.specs.declared.kinds.Shape.TheVariants.{Post, Woven};
 ghost use Rattle.block_list.specs.declared.chains.Way.TheVariants.{Into};
-ghost use Rattle.node_arena.specs.Passing.{discipline, chains, CanPutIn, Leaves, IsTold};
+ghost use Rattle.node_arena.specs.Passing.{discipline, chains, CanPutIn, Leaves};
 ghost use Rattle.node_arena.specs.Rules.{AreSound, Serves};
 ghost use Rattle.node_arena.specs.Trees.{Trees};
 ghost use Rattle.block_list.specs.Chains.{Turns, Finds, HasChainBehind, PassesAt, links_behind};
@@ -147,12 +147,12 @@ fn part<L: Ledger>(
     requires spare { 0 < arena.old.nodes.spare }
     ensures left { (t : Trees) → Finds kinds.now arena.old elem t (Into node) → Leaves kinds.now arena.old arena.new elem t result steps.old steps.new }
     ensures passes { PassesAt kinds.now arena.old elem.at result }
-    ensures told { IsTold arena.old arena.new result }
     ensures few { DifferInFew 2 arena.old arena.new }
     ensures spare { arena.old.nodes.spare ≤ arena.new.nodes.spare + 1 }
     ensures steps { steps.new ≤ steps.old + 2 }
     ensures runs { arena.new.runs ≡ arena.old.runs }
     ensures most { arena.new.nodes.most ≡ arena.old.nodes.most }
+    ensures places { arena.new.nodes.places ≡ arena.old.nodes.places }
 {
     let full = arena.view(node);
     let kind = full.kind();
@@ -166,7 +166,7 @@ fn part<L: Ledger>(
             node,
             side: Side::Post,
             elems: copied(upper),
-            above: Some(0),
+            above: 0,
         };
     }
     let behind = link.is_some();
@@ -189,12 +189,12 @@ fn put_run<L: Ledger>(
     requires spare { 0 < arena.old.nodes.spare }
     ensures left { (t : Trees) → Finds kinds.now arena.old elem t (Into node) → Leaves kinds.now arena.old arena.new elem t result steps.old steps.new }
     ensures passes { PassesAt kinds.now arena.old elem.at result }
-    ensures told { IsTold arena.old arena.new result }
     ensures few { DifferInFew 2 arena.old arena.new }
     ensures spare { arena.old.nodes.spare ≤ arena.new.nodes.spare + 1 }
     ensures steps { steps.new ≤ steps.old + 2 }
     ensures runs { arena.new.runs ≡ arena.old.runs }
     ensures most { arena.new.nodes.most ≡ arena.old.nodes.most }
+    ensures places { arena.new.nodes.places ≡ arena.old.nodes.places }
 {
     let hi = kind_of(kinds, arena.kind(node)).hi as usize;
     if arena.len(node) >= hi {
@@ -223,12 +223,12 @@ pub fn insert<L: Ledger>(
     requires spare { 0 < arena.old.nodes.spare }
     ensures left { (t : Trees) → CanPutIn kinds.now arena.old elem node t → Leaves kinds.now arena.old arena.new elem t result steps.old steps.new }
     ensures passes { PassesAt kinds.now arena.old elem.at result }
-    ensures told { IsTold arena.old arena.new result }
     ensures few { DifferInFew 2 arena.old arena.new }
     ensures spare { arena.old.nodes.spare ≤ arena.new.nodes.spare + 1 }
     ensures steps { steps.new ≤ steps.old + 2 }
     ensures runs { arena.new.runs ≡ arena.old.runs }
     ensures most { arena.new.nodes.most ≡ arena.old.nodes.most }
+    ensures places { arena.new.nodes.places ≡ arena.old.nodes.places }
 {
     match find(kinds, arena, node, &elem) {
         Way::Into(here) => put_run(kinds, here, arena, elem, steps),
@@ -236,7 +236,7 @@ pub fn insert<L: Ledger>(
             node: here,
             side: Side::Post,
             elems: copied(&[elem]),
-            above: Some(0),
+            above: 0,
         },
     }
 }

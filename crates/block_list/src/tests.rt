@@ -319,7 +319,7 @@ fn outcome(alloc: Global, arena: &Arena, begin: NodeId, step: Step) -> Result<Ou
             let mut rows = Vec::new(alloc);
             read_run(arena, node, 0, &mut rows)?;
             let (first, second) = (at_place(elems.as_slice(), 0), at_place(elems.as_slice(), 1));
-            let is_behind = side == Side::Post && depth_of(above) == Some(0);
+            let is_behind = side == Side::Post && above == 0;
             Ok((elems.len(), first, second, is_behind, rows))
         }
     }

@@ -1,15 +1,15 @@
 -- A child of a woven tree, and what becomes of the tree when the child has grown.
-use Rattle.std.proofs.Common.{◌≡◌, ◌≢◌, ◌≤◌, ◌+◌, ◌-◌, ◌*◌, inl, inr, ℕ, zero, suc, List, [], ◌∷◌, ◌++◌, length, take, drop, get_or, Some, None, IsSome, refl, ap, ◌∙◌, sym, subst, arith, append-nil, length-append, take-append-drop}
+use Rattle.std.proofs.Common.{◌≡◌, ◌≤◌, ◌+◌, ◌-◌, ◌*◌, inl, inr, ℕ, zero, suc, List, [], ◌∷◌, ◌++◌, length, take, drop, get_or, Some, None, IsSome, refl, ap, ◌∙◌, sym, subst, arith, append-nil, length-append, take-append-drop}
 use Rattle.std.specs.List.{insert}
 use Rattle.node_arena.specs.declared.elements.Elem.{Elem}
 use Rattle.node_arena.specs.declared.kinds.NodeKind.{NodeKind}
 use Rattle.node_arena.specs.Arenas.{ArenaState, node_at, with_link}
-use Rattle.node_arena.specs.Trees.{Trees, done, node, roots, Stands, Avoids, IsReachedOnce, KeepsOutside}
+use Rattle.node_arena.specs.Trees.{Trees, done, node, roots, Stands, Avoids, IsReachedOnce, ChangesOnly}
 use Rattle.node_arena.specs.Kinds.{kind_at, shape_at}
 use Rattle.node_arena.specs.Walks.{walk, walks, joined, parts, weave}
 use Rattle.node_arena.specs.Conforming.{height, IsRising}
 use Rattle.node_arena.specs.Insertions.{put_in, DifferInFew}
-use Rattle.node_arena.proofs.ChangesLemmas.{DifferInFew-wider}
+use Rattle.node_arena.proofs.ChangesLemmas.{ChangesOnly-same, ChangesOnly-beside, KeepsOutside-only, DifferInFew-wider}
 use Rattle.node_arena.proofs.RowsLemmas.{beside, roots-beside, walks-beside, Avoids-beside, beside-Avoids, beside-Stands, beside-IsReachedOnce, IsReachedOnce-beside, Stands-beside, exchanged}
 use Rattle.btree_nodes.proofs.WeaveLemmas.{tail, walk-child, walk-two}
 use Rattle.btree_nodes.specs.Weaving.{IsFan, IsRow, IsWovenKind, IsWovenTree}
@@ -98,8 +98,7 @@ module _ (s : List NodeKind) (k : ℕ) (a : ArenaState) (i levels : ℕ) (run : 
             ∙ ap (put_in x) (take-append-drop p run)
             ∙ ap (put_in x) (sym (walk-bare run))
             ∙ ap (λ t. put_in x (joined (weave run (walks s t)))) (sym none);
-        keeps = λ j h d v. refl;
-        news = λ j h v. v;
+        only = ChangesOnly-same a ls;
         differ = record { touched = []; few = omega arith; others = λ j v. refl };
       }
 
@@ -204,14 +203,14 @@ module _ (s : List NodeKind) (k : ℕ) (a : ArenaState) (i levels : ℕ) (run : 
         pub avoids : Avoids i (beside f.before (beside new f.later))
         pub high : height s (beside f.before (beside new f.later)) ≡ height s ls
         pub line : IsRow s k (kind_at s k).lo (height s ls) (beside f.before (beside new f.later))
-        pub keeps : (j : ℕ) → IsSome (node_at a j) → j ≢ i → Avoids j ls → node_at b j ≡ node_at a j
-        pub news : (j : ℕ) → IsSome (node_at a j) → Avoids j ls → Avoids j (beside f.before (beside new f.later))
+        pub only : ChangesOnly a b ls (beside f.before (beside new f.later))
 
       pub placed : Open s k a i levels run ls → p ≤ length run → Stands b new → IsReachedOnce new → IsRow s k (kind_at s k).lo (height s child) new
-          → 1 ≤ length (roots new) → KeepsOutside a b child → ((j : ℕ) → IsSome (node_at a j) → Avoids j child → Avoids j new) → Placed
-      placed o l st on line some keeps news =
+          → 1 ≤ length (roots new) → ChangesOnly a b child new → Placed
+      placed o l st on line some only =
           let w = between o l in
-          let ex = exchanged a b f.before child new f.later w.stands w.once st on keeps news in
+          let keeps = KeepsOutside-only a b child new only in
+          let ex = exchanged a b f.before child new f.later w.stands w.once st on keeps only.news in
           let line2 : IsRow s k (kind_at s k).lo (height s ls) new = subst (λ h. IsRow s k (kind_at s k).lo h new) w.high line in
           let all : IsRow s k (kind_at s k).lo (height s ls) (beside f.before (beside new f.later)) = IsRow-beside s k (kind_at s k).lo
           (height s ls) f.before (beside new f.later) w.line_before (IsRow-beside s k (kind_at s k).lo (height s ls) new f.later line2 w.line_later) in
@@ -224,11 +223,11 @@ module _ (s : List NodeKind) (k : ℕ) (a : ArenaState) (i levels : ℕ) (run : 
             same = keeps i here away.1;
             stands = ex.0;
             once = ex.1;
-            avoids = Avoids-beside i f.before (beside new f.later) away.0 (Avoids-beside i new f.later (news i here away.1) away.2);
+            avoids = Avoids-beside i f.before (beside new f.later) away.0 (Avoids-beside i new f.later (only.news i here away.1) away.2);
             high = IsRow-height s k (kind_at s k).lo (height s ls) (beside f.before (beside new f.later)) all (omega arith);
             line = all;
-            keeps = λ j h d v. keeps j h (parts_of j v).1;
-            news = λ j h v. let q = parts_of j v in Avoids-beside j f.before (beside new f.later) q.0 (Avoids-beside j new f.later (news j h q.1) q.2);
+            only = subst (λ t. ChangesOnly a b t (beside f.before (beside new f.later))) (sym f.is)
+                (ChangesOnly-beside a b f.before child new f.later only);
           }
         where
           parts_of : (j : ℕ) → Avoids j ls → Avoids j f.before × Avoids j child × Avoids j f.later
@@ -253,7 +252,7 @@ module _ (s : List NodeKind) (k : ℕ) (a : ArenaState) (i levels : ℕ) (run : 
         let row : Trees = beside f.before (beside r.tree f.later) in
         let one : length (roots r.tree) ≡ 1 = ap length r.same_roots in
         let pl : Placed b r.tree = placed b r.tree o l r.stands r.once
-        (r.row (kind_at s k).lo (omega arith) (subst (λ h. IsRow s k (kind_at s k).lo h child) (sym w.high) w.line_child)) (omega arith) r.keeps r.news in
+        (r.row (kind_at s k).lo (omega arith) (subst (λ h. IsRow s k (kind_at s k).lo h child) (sym w.high) w.line_child)) (omega arith) r.only in
         let high : height s row ≡ height s ls = pl.high in
         let links : roots row ≡ roots ls =
         roots-beside f.before (beside r.tree f.later)
@@ -277,8 +276,11 @@ module _ (s : List NodeKind) (k : ℕ) (a : ArenaState) (i levels : ℕ) (run : 
               ∙ ap (λ v. joined (weave (take p run) (walks s f.before)) ++ (v ++ joined (tail (drop p run) (walks s f.later)))) r.walk_is
               ∙ sym (put-child x o l under reach)
               ∙ ap (put_in x) (sym (walk-node s i k run ls o.kind.shape));
-          keeps = λ j h v. pl.keeps j h (λ z. v.0 (sym z)) v.1;
-          news = λ j h v. (v.0, pl.news j h v.1, tt);
+          only = record {
+            others = λ j v u. pl.only.others j v.1 u.1;
+            stays = λ j u. (u.0, pl.only.stays j u.1, tt);
+            news = λ j h v. (v.0, pl.only.news j h v.1, tt);
+          };
           differ = DifferInFew-wider (2 * height s child) (2 * height s (node i k run ls done)) a b (omega (arith, w.high)) r.differ;
         }
 
@@ -296,8 +298,7 @@ module _ (s : List NodeKind) (k : ℕ) (a : ArenaState) (i levels : ℕ) (run : 
         let count : length (roots two) ≡ 2 = ap length pair in
         let pl : Placed b two = placed b two o l (Stands-beside b r.lower r.upper r.stands.0 r.stands.1)
         (IsReachedOnce-beside r.lower r.upper r.once.0 r.once.1 r.once.2)
-        (IsRow-beside s k (kind_at s k).lo (height s child) r.lower r.upper r.row.0 r.row.1) (omega arith) r.keeps
-        (λ j h v. let q = r.news j h v in Avoids-beside j r.lower r.upper q.0 q.1) in
+        (IsRow-beside s k (kind_at s k).lo (height s child) r.lower r.upper r.row.0 r.row.1) (omega arith) r.only in
         let links : roots row ≡ roots f.before ++ (Some (c) ∷ Some right ∷ roots f.later) =
         roots-beside f.before (beside two f.later)
         ∙ ap (λ q. roots f.before ++ q) (roots-beside two f.later)
@@ -330,8 +331,7 @@ module _ (s : List NodeKind) (k : ℕ) (a : ArenaState) (i levels : ℕ) (run : 
                 ∙ walk-two (take p run) (drop p run) up (walks s f.before) (walks s f.later) (walk s r.lower) (walk s r.upper) w.before_count w.later_count
                 ∙ ap (λ v. joined (weave (take p run) (walks s f.before)) ++ (v ++ joined (tail (drop p run) (walks s f.later)))) r.walk_is
                 ∙ sym (put-child x o l under reach);
-            keeps = pl.keeps;
-            news = pl.news;
+            only = pl.only;
             differ = subst (λ h. DifferInFew (2 * h) a b) w.high r.differ;
           },
           ap (λ q. insert q (p + 1) (Some right)) old ∙ insert-after (roots f.before) (Some (c)) (roots f.later) (Some right) p f.place ∙ sym links,

@@ -1,21 +1,21 @@
 -- What becomes of the tree at a link.
-use Rattle.std.proofs.Common.{◌≡◌, ◌≤◌, ◌<◌, ◌+◌, ◌*◌, ◌^◌, ◌⊎◌, inl, inr, ℕ, zero, suc, List, [], ◌∷◌, ◌++◌, length, drop, Option, Some, None, IsSome, refl, ap, ◌∙◌, sym, subst, arith, append-nil}
+use Rattle.std.proofs.Common.{◌≡◌, ◌≤◌, ◌<◌, ◌+◌, ◌*◌, ◌^◌, ◌⊎◌, inl, inr, ℕ, zero, suc, List, [], ◌∷◌, ◌++◌, length, drop, Option, Some, None, refl, ap, ◌∙◌, sym, subst, arith, append-nil}
 use Rattle.std.proofs.Math.Nat.{pow-le-pow_right}
 use Rattle.node_arena.specs.declared.elements.Elem.{Elem}
 use Rattle.node_arena.specs.declared.kinds.NodeKind.{NodeKind}
 use Rattle.node_arena.specs.declared.kinds.Shape.TheVariants.{Woven}
 use Rattle.node_arena.specs.Arenas.{ArenaState, NodeState, node_at, ChangesNode}
 use Rattle.node_arena.specs.Kinds.{kind_at, shape_at}
-use Rattle.node_arena.specs.Trees.{Trees, done, absent, node, roots, Stands, Avoids, IsReachedOnce, KeepsOutside, TakesFree}
+use Rattle.node_arena.specs.Trees.{Trees, done, absent, node, roots, Stands, Avoids, IsReachedOnce, ChangesOnly}
 use Rattle.node_arena.specs.Walks.{walk, walks, joined, weave}
 use Rattle.node_arena.specs.Conforming.{height, spine, IsRising}
 use Rattle.node_arena.specs.Rules.{AreSound, HasSoundLinks}
 use Rattle.node_arena.specs.Insertions.{put_in, DifferInFew}
-use Rattle.node_arena.proofs.ChangesLemmas.{DifferInFew-one, DifferInFew-then, DifferInFew-wider}
+use Rattle.node_arena.proofs.ChangesLemmas.{ChangesOnly-change, ChangesOnly-then, DifferInFew-one, DifferInFew-then, DifferInFew-wider}
 use Rattle.node_arena.proofs.FramesLemmas.{Stands-changed, Avoids-free}
 use Rattle.node_arena.proofs.HeightsLemmas.{height-bound}
 use Rattle.node_arena.proofs.PutInLemmas.{IsRising-put_in}
-use Rattle.node_arena.proofs.RowsLemmas.{beside, roots-beside, walks-beside, Stands-beside, IsReachedOnce-beside, Avoids-beside}
+use Rattle.node_arena.proofs.RowsLemmas.{beside, roots-beside, walks-beside, Stands-beside, IsReachedOnce-beside}
 use Rattle.node_arena.proofs.Uniqueness.{trees_unique}
 use Rattle.btree_nodes.specs.Weaving.{IsRow, IsWovenKind, IsWovenTree}
 use Rattle.btree_nodes.specs.Splits.{node_of}
@@ -79,9 +79,9 @@ module _ (s : List NodeKind) (sound : AreSound s) (k : ℕ) (kind : IsWovenKind 
 
   -- another root, under which x is put in
   put : (b : ArenaState) (i h : ℕ) (run : List Elem) (links : Trees) → Stands b (node i k run links done) → IsReachedOnce (node i k run links done)
-      → IsRow s k 1 h (node i k run links done) → walk s (node i k run links done) ≡ put_in x (walk s t) → KeepsOutside a b t
-      → TakesFree a t (node i k run links done) → PutsUnder s k a b x t i
-  put b i h run links stands once row is keeps news =
+      → IsRow s k 1 h (node i k run links done) → walk s (node i k run links done) ≡ put_in x (walk s t)
+      → ChangesOnly a b t (node i k run links done) → PutsUnder s k a b x t i
+  put b i h run links stands once row is only =
       let up = IsRising-put_in x (walk s t) can.conforms.rising can.lacks in
       let c = conform-of s k kind h (node i k run links done) row refl (subst IsRising (sym is) up) in
       record {
@@ -94,8 +94,7 @@ module _ (s : List NodeKind) (sound : AreSound s) (k : ℕ) (kind : IsWovenKind 
           level = c.0.level;
           spine_low = c.1 (1 + spine s t);
           walk_is = is;
-          keeps = keeps;
-          news = news;
+          only = only;
         };
       }
 
@@ -108,8 +107,9 @@ module _ (s : List NodeKind) (sound : AreSound s) (k : ℕ) (kind : IsWovenKind 
       let half : 2 * (kind_at s k).lo ≤ (kind_at s k).hi = kind.half in
       put b new 1 (x ∷ []) done (ch.node.changed, tt, tt) (tt, tt, tt, tt, tt) (refl, omega arith, omega arith, inl refl, refl, tt, tt)
       (walk-node s new k (x ∷ []) done kind.shape ∙ ap (λ u. put_in x (walk s u)) (sym no))
-      (λ j h v. ch.node.others j (λ z. some_differs a j new h free (sym z)))
-      (λ j h v. (some_differs a j new h free, tt, tt))
+      (subst (λ u. ChangesOnly a b u (node new k (x ∷ []) done done)) (sym no)
+      (ChangesOnly-change a b (absent done) (node new k (x ∷ []) done done) new (Some (node_of k (x ∷ []) [])) ch (λ w. w.0 refl) (λ j w. tt)
+      (λ j h v. (some_differs a j new h free, tt, tt))))
 
   -- one node was written
   pub few-started : (b : ArenaState) (new : ℕ) (slot : Option NodeState) (old now : ℕ) → ChangesNode a b new slot → now ≡ old + 1
@@ -171,7 +171,7 @@ module _ (s : List NodeKind) (sound : AreSound s) (k : ℕ) (kind : IsWovenKind 
         let row : IsRow s k 1 (height s t) r.tree = r.row 1 kind.some root.row in
         let one : OneTree k i r.tree = one_tree s k 1 (height s t) i r.tree row (r.same_roots ∙ leads) in
         put b i (height s t) one.run one.links (subst (Stands b) one.is r.stands) (subst IsReachedOnce one.is r.once)
-        (subst (IsRow s k 1 (height s t)) one.is row) (ap (walk s) (sym one.is) ∙ r.walk_is) r.keeps (subst (TakesFree a t) one.is r.news)
+        (subst (IsRow s k 1 (height s t)) one.is row) (ap (walk s) (sym one.is) ∙ r.walk_is) (subst (ChangesOnly a b t) one.is r.only)
 
     -- a new root over two trees
     pub raised : (b c : ArenaState) (up : Elem) (right new : ℕ) → SplitsRoot s k a b x t up right → node_at b new ≡ None
@@ -201,10 +201,6 @@ module _ (s : List NodeKind) (sound : AreSound s) (k : ℕ) (kind : IsWovenKind 
         (away, tt, IsApart-done two, once, tt)
         (refl, omega arith, omega arith, inr count, refl, subst (λ h. IsRow s k (kind_at s k).lo h two) (sym high) line, tt)
         is
-        (λ j h v.
-        let old : node_at b j ≡ node_at a j = r.keeps j h v in
-        ch.node.others j (λ z. some_differs b j new (subst IsSome (sym old) h) free (sym z)) ∙ old)
-        (λ j h v.
-        let old : node_at b j ≡ node_at a j = r.keeps j h v in
-        let q = r.news j h v in
-        (some_differs b j new (subst IsSome (sym old) h) free, Avoids-beside j r.lower r.upper q.0 q.1, tt))
+        (ChangesOnly-then a b c t two (node new k (up ∷ []) two done) r.only
+        (ChangesOnly-change b c two (node new k (up ∷ []) two done) new (Some (node_of k (up ∷ []) (Some i ∷ Some right ∷ []))) ch (λ w. w.0 refl) (λ j w. w.1)
+        (λ j h v. (some_differs b j new h free, v, tt))))

@@ -10,7 +10,7 @@ use Rattle.node_arena.specs.Walks.{walk}
 use Rattle.node_arena.specs.Conforming.{Hang, whole, spine, spine_by}
 use Rattle.node_arena.specs.Insertions.{Lacks, put_in, all_put_in}
 use Rattle.node_arena.specs.Passing.{PutsAt}
-use Rattle.node_arena.proofs.ChangesLemmas.{KeepsOutside-then, TakesFree-then}
+use Rattle.node_arena.proofs.ChangesLemmas.{ChangesOnly-then}
 use Rattle.node_arena.proofs.InsertionsLemmas.{Conform-PutsAt}
 use Rattle.node_arena.proofs.PutInLemmas.{length-put_in, Lacks-put_in}
 use Rattle.btree_nodes.specs.Links.{CanPutAt, PutsUnder}
@@ -43,8 +43,7 @@ PutsAt-then s k a b c xs ys t u v e p q =
       level = q.level;
       spine_low = omega arith;
       walk_is = q.walk_is ∙ ap (all_put_in ys) p.walk_is ∙ sym (all_put_in-append xs ys (walk s t));
-      keeps = KeepsOutside-then a b c t u p.keeps p.news q.keeps;
-      news = TakesFree-then a b t u v p.keeps p.news q.news;
+      only = ChangesOnly-then a b c t u v p.only q.only;
     }
 
 -- an element may be put in at a link that leads nowhere

@@ -4,12 +4,13 @@ use Rattle.node_arena.specs.declared.elements.Elem.{Elem}
 use Rattle.node_arena.specs.declared.kinds.NodeKind.{NodeKind}
 use Rattle.node_arena.specs.declared.kinds.Shape.TheVariants.{Woven}
 use Rattle.node_arena.specs.Arenas.{ArenaState, node_at, ChangesNode}
-use Rattle.node_arena.specs.Trees.{Trees, done, node, roots, stored, Stands, Avoids, IsReachedOnce}
+use Rattle.node_arena.specs.Trees.{Trees, done, node, roots, stored, Stands, Avoids, IsReachedOnce, ChangesOnly}
 use Rattle.node_arena.specs.Kinds.{kind_at, shape_at}
 use Rattle.node_arena.specs.Walks.{walk, walks, joined, parts, weave}
 use Rattle.node_arena.specs.Conforming.{height}
 use Rattle.node_arena.specs.Insertions.{put_in, DifferInFew}
-use Rattle.node_arena.proofs.RowsLemmas.{beside, walks-beside, beside-Stands, beside-Avoids, beside-IsReachedOnce}
+use Rattle.node_arena.proofs.RowsLemmas.{beside, walks-beside, Avoids-beside, beside-Stands, beside-Avoids, beside-IsReachedOnce}
+use Rattle.node_arena.proofs.ChangesLemmas.{ChangesOnly-under}
 use Rattle.node_arena.proofs.FramesLemmas.{Stands-changed, Avoids-free}
 use Rattle.btree_nodes.proofs.WeaveLemmas.{walk-parted}
 use Rattle.btree_nodes.specs.Weaving.{IsFan, IsRow, IsWovenKind}
@@ -36,8 +37,7 @@ pub record Wide (s : List NodeKind) (k : ℕ) (a b : ArenaState) (x : Elem) (i :
   pub fan : IsFan wider row
   pub more : length wider ≡ length run + 1
   pub walk_is : joined (weave wider (walks s row)) ≡ put_in x (joined (weave run (walks s ls)))
-  pub keeps : (j : ℕ) → IsSome (node_at a j) → j ≢ i → Avoids j ls → node_at b j ≡ node_at a j
-  pub news : (j : ℕ) → IsSome (node_at a j) → Avoids j ls → Avoids j row
+  pub only : ChangesOnly a b ls row
   pub differ : DifferInFew (2 * height s ls) a b
 
 -- the two halves of a row
@@ -125,8 +125,7 @@ module _ (s : List NodeKind) (k : ℕ) where
           once = (w.avoids, tt, IsApart-done row, w.once, tt);
           row = λ low le r. (refl, omega (arith, r.1), few, w.fan, omega arith, subst (λ h. IsRow s k (kind_at s k).lo h row) (sym high) w.line, tt);
           walk_is = walk-node s i k wider row kind.shape ∙ w.walk_is ∙ ap (put_in x) (sym (walk-node s i k run ls kind.shape));
-          keeps = λ j h v. ch.node.others j (λ z. v.0 (sym z)) ∙ w.keeps j h (λ z. v.0 (sym z)) v.1;
-          news = λ j h v. (v.0, w.news j h v.1, tt);
+          only = ChangesOnly-under a b c i k k run wider ls row (Some (node_of k wider (roots row))) w.only ch;
           differ = record {
             touched = i ∷ w.differ.touched;
             few = let f = w.differ.few in omega arith;
@@ -188,15 +187,16 @@ module _ (s : List NodeKind) (k : ℕ) where
               ∙ walk-cut wider sp.lower sp.upper up row sp.run_is w.fan
               ∙ w.walk_is
               ∙ ap (put_in x) (sym (walk-node s i k run ls kind.shape));
-          keeps = λ j h v.
-              let same : node_at b j ≡ node_at a j = w.keeps j h (λ z. v.0 (sym z)) v.1 in
-              let some : IsSome (node_at b j) = subst IsSome (sym same) h in
-              sp.puts.node.others j (λ z. v.0 (sym z)) ∙ sp.makes.node.others j (λ z. some_differs b j right some sp.free (sym z)) ∙ same;
-          news = λ j h v.
-              let same : node_at b j ≡ node_at a j = w.keeps j h (λ z. v.0 (sym z)) v.1 in
-              let some : IsSome (node_at b j) = subst IsSome (sym same) h in
-              let two : Avoids j r1 × Avoids j r2 = beside-Avoids j r1 r2 (subst (Avoids j) (sym both) (w.news j h v.1)) in
-              ((v.0, two.0, tt), (some_differs b j right some sp.free, two.1, tt));
+          only = record {
+            others = λ j v u. sp.puts.node.others j (λ z. v.0 (sym z)) ∙ sp.makes.node.others j (λ z. u.2.0 (sym z))
+                ∙ w.only.others j v.1 (subst (Avoids j) both (Avoids-beside j r1 r2 u.1 u.2.1));
+            stays = λ j u. (u.0, w.only.stays j (subst (Avoids j) both (Avoids-beside j r1 r2 u.1 u.2.1)), tt);
+            news = λ j h v.
+                let away : Avoids j row = w.only.news j h v.1 in
+                let some : IsSome (node_at b j) = subst IsSome (sym (w.only.others j v.1 away)) h in
+                let two : Avoids j r1 × Avoids j r2 = beside-Avoids j r1 r2 (subst (Avoids j) (sym both) away) in
+                (v.0, two.0, (some_differs b j right some sp.free, two.1, tt));
+          };
           differ = record {
             touched = i ∷ right ∷ w.differ.touched;
             few = let f = w.differ.few in omega arith;

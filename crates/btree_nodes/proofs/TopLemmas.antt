@@ -1,17 +1,18 @@
 -- What becomes of a whole structure: what becomes of the tree at a link that leads to its root.
-use Rattle.std.proofs.Common.{◌≡◌, ◌≢◌, ◌≤◌, ◌<◌, ◌+◌, ◌^◌, ℕ, List, [], ◌∷◌, length, Some, None, slice_index_or, refl, ap, ◌∙◌, sym, subst, arith}
+use Rattle.std.proofs.Common.{◌≡◌, ◌≢◌, ◌≤◌, ◌<◌, ◌+◌, ◌^◌, ℕ, List, [], ◌∷◌, length, Some, refl, ap, ◌∙◌, sym, subst, arith}
 use Rattle.node_arena.specs.declared.elements.Elem.{Elem}
 use Rattle.node_arena.specs.declared.elements.Structure.{Structure}
 use Rattle.node_arena.specs.declared.kinds.NodeKind.{NodeKind}
 use Rattle.node_arena.specs.declared.kinds.Shape.TheVariants.{Flat, Woven}
-use Rattle.node_arena.specs.Arenas.{ArenaState, RunsState}
+use Rattle.node_arena.specs.Arenas.{ArenaState}
 use Rattle.node_arena.specs.Kinds.{shape_at}
-use Rattle.node_arena.specs.Trees.{Trees, done, node, roots, Stands, IsReachedOnce, TakesFree}
+use Rattle.node_arena.specs.Trees.{Trees, done, node, roots, Stands, IsReachedOnce, ChangesOnly}
 use Rattle.node_arena.specs.Walks.{walk}
 use Rattle.node_arena.specs.Conforming.{height, spine, Conform}
-use Rattle.node_arena.specs.Structures.{Tree, empty, rooted, flat, links_of, top_of, walk_of, IsStanding, ConformTree, IsConforming}
+use Rattle.node_arena.specs.Structures.{Tree, empty, rooted, flat, links_of, top_of, walk_of, AvoidsRun, IsStanding, ConformTree, IsConforming}
 use Rattle.node_arena.specs.Insertions.{put_in, Lacks, IsPutIn}
 use Rattle.node_arena.specs.Passing.{PutsAt}
+use Rattle.node_arena.proofs.ChangesLemmas.{ChangesOnlyTree-nodes}
 use Rattle.node_arena.proofs.InsertionsLemmas.{Conform-PutsAt}
 use Rattle.node_arena.proofs.PutInLemmas.{length-put_in}
 use Rattle.node_arena.proofs.StructuresLemmas.{tree_unique}
@@ -26,6 +27,11 @@ module _ (s : List NodeKind) (k : ℕ) (kind : IsWovenKind s k) where
   leads-of empty c = refl
   leads-of (rooted i m run ls) c = refl
   leads-of (flat i run) c = let f : Woven ≡ Flat = sym kind.shape ∙ c.0 in cc
+
+  no-run : (t : Tree) → ConformTree s k t → (i : ℕ) → AvoidsRun i t
+  no-run empty c i = tt
+  no-run (rooted j m run ls) c i = tt
+  no-run (flat j run) c i = let f : Woven ≡ Flat = sym kind.shape ∙ c.0 in cc
 
   walk-same : (t : Tree) → ConformTree s k t → walk s (links_of t) ≡ walk_of s t
   walk-same empty c = refl
@@ -77,8 +83,7 @@ module _ (s : List NodeKind) (k : ℕ) (kind : IsWovenKind s k) where
             };
             conforms = record { tree = (woven, subst (Conform s k) r.is c); spine_kept = omega arith; spine_low = cf.spine_low };
             walk_is = is;
-            keeps = record { nodes = p.keeps; runs = λ j some v. ap (λ (q : RunsState). slice_index_or q.slots j None) same };
-            news = record { nodes = subst (TakesFree a (links_of t)) r.is p.news; runs = λ j some v. tt };
+            only = ChangesOnlyTree-nodes a b t (rooted i k r.run r.links) (subst (ChangesOnly a b (links_of t)) r.is p.only) same (no-run t cf.tree) (λ j. tt);
           })
 
       -- the structure has x put in, where the tree at the link has

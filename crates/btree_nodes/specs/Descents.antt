@@ -1,10 +1,10 @@
--- A woven tree into which an element has gone: it has its root still, or the root is split.
-use Rattle.std.specs.Prelude.{◌≡◌, ◌≤◌, ◌*◌, ℕ, List, [], ◌∷◌, ◌++◌, IsSome, Option, Some, None}
+-- A woven tree into which an element has gone: it has its root still, or the root is split. No public clause cites this module.
+use Rattle.std.specs.Prelude.{◌≡◌, ◌≤◌, ◌*◌, ℕ, List, [], ◌∷◌, ◌++◌, Option, Some, None}
 use Rattle.node_arena.specs.declared.elements.Elem.{Elem}
 use Rattle.node_arena.specs.declared.kinds.NodeKind.{NodeKind}
-use Rattle.node_arena.specs.Arenas.{ArenaState, node_at}
+use Rattle.node_arena.specs.Arenas.{ArenaState}
 use Rattle.node_arena.specs.Kinds.{kind_at}
-use Rattle.node_arena.specs.Trees.{Trees, roots, Stands, Avoids, IsApart, IsReachedOnce, KeepsOutside, TakesFree}
+use Rattle.node_arena.specs.Trees.{Trees, roots, beside, Stands, IsApart, IsReachedOnce, ChangesOnly}
 use Rattle.node_arena.specs.Walks.{walk}
 use Rattle.node_arena.specs.Conforming.{height}
 use Rattle.node_arena.specs.Insertions.{put_in, DifferInFew}
@@ -18,8 +18,7 @@ pub record KeepsRoot (s : List NodeKind) (k : ℕ) (a b : ArenaState) (x : Elem)
   pub once : IsReachedOnce tree
   pub row : (low : ℕ) → low ≤ (kind_at s k).lo → IsRow s k low (height s t) t → IsRow s k low (height s t) tree
   pub walk_is : walk s tree ≡ put_in x (walk s t)
-  pub keeps : KeepsOutside a b t
-  pub news : TakesFree a t tree
+  pub only : ChangesOnly a b t tree
   pub differ : DifferInFew (2 * height s t) a b
 
 -- the tree is now two trees of its height with an element between them, and x is put in
@@ -32,8 +31,7 @@ pub record SplitsRoot (s : List NodeKind) (k : ℕ) (a b : ArenaState) (x : Elem
   pub once : IsReachedOnce lower × IsReachedOnce upper × IsApart lower upper
   pub row : IsRow s k (kind_at s k).lo (height s t) lower × IsRow s k (kind_at s k).lo (height s t) upper
   pub walk_is : walk s lower ++ up ∷ walk s upper ≡ put_in x (walk s t)
-  pub keeps : KeepsOutside a b t
-  pub news : (j : ℕ) → IsSome (node_at a j) → Avoids j t → Avoids j lower × Avoids j upper
+  pub only : ChangesOnly a b t (beside lower upper)
   pub differ : DifferInFew (2 * height s t) a b
 
 -- one of the two: an element that is handed out stands between the halves of the old tree, the upper one under the number that comes with it

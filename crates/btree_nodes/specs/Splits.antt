@@ -1,4 +1,4 @@
--- A node that has become a run longer: written whole, or split.
+-- A node that has become a run longer: written whole, or split. No public clause cites this module.
 use Rattle.std.specs.Prelude.{◌≡◌, ◌≤◌, ◌<◌, ◌+◌, ◌/◌, ℕ, List, ◌∷◌, ◌++◌, length, take, drop, Option, Some, None, IfSome}
 use Rattle.std.specs.List.{insert}
 use Rattle.node_arena.specs.declared.elements.Elem.{Elem}

@@ -26,6 +26,7 @@ pub(crate) fn descend<L: Ledger>(
     ensures spare { (t : Trees) → IsWovenTree kinds.now kind arena.old node levels t → arena.old.nodes.spare ≤ arena.new.nodes.spare + height kinds.now t }
     ensures steps { (t : Trees) → IsWovenTree kinds.now kind arena.old node levels t → steps.new ≤ steps.old + 2 * height kinds.now t }
     ensures most { arena.new.nodes.most ≡ arena.old.nodes.most }
+    ensures places { arena.new.nodes.places ≡ arena.old.nodes.places }
     ensures runs { arena.new.runs ≡ arena.old.runs }
 {
     let place = arena.place(node, elem.at);

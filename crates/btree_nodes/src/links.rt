@@ -36,6 +36,7 @@ pub fn insert_below<L: Ledger>(
         → arena.old.nodes.spare ≤ arena.new.nodes.spare + d }
     ensures runs { arena.new.runs ≡ arena.old.runs }
     ensures most { arena.new.nodes.most ≡ arena.old.nodes.most }
+    ensures places { arena.new.nodes.places ≡ arena.old.nodes.places }
 {
     match root {
         None => arena.make(kind, &[elem], &[], steps),

@@ -115,6 +115,7 @@ fn split<L: Ledger>(
     ensures spare { arena.new.nodes.spare + 1 ≡ arena.old.nodes.spare }
     ensures steps { steps.new ≡ steps.old + 2 }
     ensures most { arena.new.nodes.most ≡ arena.old.nodes.most }
+    ensures places { arena.new.nodes.places ≡ arena.old.nodes.places }
     ensures runs { arena.new.runs ≡ arena.old.runs }
 {
     let keep = (hi + 1) / 2;
@@ -150,6 +151,7 @@ pub(crate) fn put_at<L: Ledger>(
     ensures spare { arena.old.nodes.spare ≤ arena.new.nodes.spare + 1 }
     ensures steps { steps.new ≤ steps.old + 2 }
     ensures most { arena.new.nodes.most ≡ arena.old.nodes.most }
+    ensures places { arena.new.nodes.places ≡ arena.old.nodes.places }
     ensures runs { arena.new.runs ≡ arena.old.runs }
 {
     let hi = longest(kinds, kind);

@@ -56,6 +56,7 @@ pub fn insert<L: Ledger>(
     ensures spare { (d : ℕ) → top.len + 1 < 2 ^ d → arena.old.nodes.spare ≤ arena.new.nodes.spare + d }
     ensures runs { arena.new.runs ≡ arena.old.runs }
     ensures most { arena.new.nodes.most ≡ arena.old.nodes.most }
+    ensures places { arena.new.nodes.places ≡ arena.old.nodes.places }
     ensures len { result.len ≡ top.len + 1 }
     ensures spine { result.spine ≡ top.spine }
 {

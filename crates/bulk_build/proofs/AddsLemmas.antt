@@ -3,15 +3,9 @@ use Rattle.std.proofs.Common.{◌≡◌, ◌≢◌, ℕ, List, Some, None, IsSom
 use Rattle.node_arena.specs.declared.elements.Elem.{Elem}
 use Rattle.node_arena.specs.Arenas.{ArenaState, node_at, ChangesNode}
 use Rattle.node_arena.specs.Trees.{Trees, done, absent, node, stored, Stands, Avoids, IsApart, KeepsOutside, TakesFree}
-use Rattle.node_arena.proofs.FramesLemmas.{Stands-changed, Stands-outside, Avoids-free}
+use Rattle.node_arena.proofs.FramesLemmas.{Stands-changed, Stands-outside, Avoids-free, IsApart-done}
 use Rattle.node_arena.proofs.RowsLemmas.{beside, Stands-beside, Avoids-beside, beside-Avoids, IsReachedOnce-beside, IsApart-flip}
 use Rattle.bulk_build.specs.Layouts.{Adds}
-
--- trees are apart from none
-pub IsApart-done : (t : Trees) → IsApart t done
-IsApart-done done = tt
-IsApart-done (absent t) = IsApart-done t
-IsApart-done (node i k run ls t) = (tt, IsApart-done ls, IsApart-done t)
 
 -- a node that was there is there
 pub some-after : (a b : ArenaState) (i : ℕ) → KeepsOutside a b done → IsSome (node_at a i) → IsSome (node_at b i)

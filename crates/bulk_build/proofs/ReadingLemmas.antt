@@ -12,10 +12,9 @@ use Rattle.node_arena.specs.Rules.{AreSound, HasSoundLinks}
 use Rattle.node_arena.specs.Trees.{Trees, done, absent, node, roots, Stands, KeepsOutside}
 use Rattle.node_arena.specs.Conforming.{RisesFrom, IsRising}
 use Rattle.node_arena.specs.Structures.{Tree, empty, rooted, flat, top_of, links_of, HasRun}
-use Rattle.node_arena.proofs.FramesLemmas.{Stands-outside}
+use Rattle.node_arena.proofs.FramesLemmas.{Stands-outside, IsApart-done}
 use Rattle.bulk_build.specs.Building.{IsBuilt, IsAsBefore}
 use Rattle.bulk_build.specs.Layouts.{HasTree, HasTop, numbered, numbered_from}
-use Rattle.bulk_build.proofs.AddsLemmas.{IsApart-done}
 
 -- the tree at a place of a row
 pub tree-at : (a : ArenaState) (ls : Trees) (j : ℕ) → Stands a ls → HasTree a (slice_index_or (roots ls) j None)

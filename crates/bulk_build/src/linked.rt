@@ -30,6 +30,7 @@ pub(crate) fn linked<L: Ledger>(
     ensures err { OnErr result (IsAsBefore arena.old arena.new) }
     ensures spent { OnOk result (Spends arena.old arena.new (length elems.now) 1) }
     ensures left { OnErr result (CanBeNumbered arena.new → Spends arena.old arena.new 0 1) }
+    ensures runs { arena.new.runs ≡ arena.old.runs }
     ensures most { arena.new.nodes.most ≡ arena.old.nodes.most }
     ensures steps { steps.new ≤ steps.old + length elems.now }
 {

@@ -1,8 +1,9 @@
 //! The one call.
-ghost use Rattle.std.specs.Prelude.{◌≡◌, ◌<◌, ◌≤◌, ◌+◌, ℕ, IfOk, OnOk, OnErr, length};
+ghost use Rattle.std.specs.Prelude.{◌≡◌, ◌≢◌, ◌<◌, ◌≤◌, ◌+◌, ℕ, IfOk, OnOk, OnErr, length};
 ghost use Rattle.node_arena.specs.Conforming.{IsRising};
 ghost use Rattle.node_arena.specs.Kinds.{shape_at};
 ghost use Rattle.node_arena.specs.Rules.{AreSound, Serves};
+ghost use Rattle.node_arena.specs.declared.kinds.Shape.TheVariants.{Flat};
 ghost use Rattle.bulk_build.specs.Building.{IsBuilt, IsAsBefore, Spends, CanBeNumbered};
 
 use crate::flat::flat;
@@ -30,6 +31,7 @@ pub fn build<L: Ledger>(
     ensures err { OnErr result (IsAsBefore arena.old arena.new) }
     ensures spent { OnOk result (Spends arena.old arena.new (length elems.now) 1) }
     ensures left { OnErr result (CanBeNumbered arena.new → Spends arena.old arena.new 0 1) }
+    ensures runs { shape_at kinds.now root ≢ Flat → arena.new.runs ≡ arena.old.runs }
     ensures most { arena.new.nodes.most ≡ arena.old.nodes.most }
     ensures steps { steps.new ≤ steps.old + length elems.now }
 {

@@ -10,10 +10,10 @@ use Rattle.node_arena.specs.Arenas.{ArenaState}
 use Rattle.node_arena.specs.Conforming.{Hang, Place, whole, places, least_of, IsLevel, spine, spine_by, IsRising, Conform}
 use Rattle.node_arena.specs.Kinds.{kind_at, shape_at}
 use Rattle.node_arena.specs.Rules.{AreSound, HasSoundLinks}
-use Rattle.node_arena.specs.Structures.{Tree, empty, rooted, flat, links_of, top_of, walk_of, HasRun, ConformTree, AvoidsRun}
+use Rattle.node_arena.specs.Structures.{Tree, empty, rooted, flat, links_of, top_of, walk_of, HasRun, ConformTree, AvoidsRun, IsStructure}
 use Rattle.node_arena.specs.Trees.{Trees, done, absent, node, roots, Stands, Avoids, IsReachedOnce}
 use Rattle.node_arena.specs.Walks.{item, link, parts, between, joined, walk, walks}
-use Rattle.chunk_tree.specs.Balancing.{Holds, IsRebalanced}
+use Rattle.chunk_tree.specs.Balancing.{IsRebalanced}
 use Rattle.chunk_tree.specs.Relinking.{Cell, Without, numbers_of, joined_rows, around, rows, cells, IsNarrow, IsAt, IsLaid, IsLinked, root_at, top_at}
 use Rattle.chunk_tree.proofs.Cells.{AllStand-cells, AreDistinct-cells, Without-cells, Avoids-cells}
 use Rattle.node_arena.proofs.WalksLemmas.{joined-items, joined-links}
@@ -74,13 +74,13 @@ cells-of k hi (node i m run ls t) h =
     cells-join k hi (around (record { at = i; kind = m; run = run }) (rows ls)) (cells t)
     (cells-around k hi (record { at = i; kind = m; run = run }) (rows ls) (h.0, h.1.0, h.1.1) (cells-of k hi ls h.3)) (cells-of k hi t h.4)
 
-of-cells : (k hi room : ℕ) (t : Trees) → IsNarrow room t → AreCellsOf k hi (cells t) → AreOf k hi t
-of-cells k hi room done n h = tt
-of-cells k hi room (absent t) n h = of-cells k hi room t n h
-of-cells k hi room (node i m run ls t) n h =
+of-cells : (k hi levels : ℕ) (t : Trees) → IsNarrow levels t → AreCellsOf k hi (cells t) → AreOf k hi t
+of-cells k hi levels done n h = tt
+of-cells k hi levels (absent t) n h = of-cells k hi levels t n h
+of-cells k hi levels (node i m run ls t) n h =
     let p = cells-parts k hi (around (record { at = i; kind = m; run = run }) (rows ls)) (cells t) h in
     let q = around-cells k hi (record { at = i; kind = m; run = run }) (rows ls) p.0 in
-    (q.0.0, (q.0.1, q.0.2), n.1, of-cells k hi (room - 1) ls n.2 q.1, of-cells k hi room t n.3 p.1)
+    (q.0.0, (q.0.1, q.0.2), n.1, of-cells k hi (levels - 1) ls n.2 q.1, of-cells k hi levels t n.3 p.1)
 
 -- the elements of the cells
 abbrev pub runs_of : List Cell → List Elem
@@ -156,12 +156,12 @@ module _ (s : List NodeKind) (k : ℕ) (shape : shape_at s k ≡ Ends k k) (lo :
   spine-node : (m : ℕ) (n r : ℕ) → m ≡ k → max (spine_by (shape_at s m) n) r ≡ max (1 + n) r
   spine-node m n r e = ap (λ sh. max (spine_by sh n) r) (ap (shape_at s) e ∙ shape)
 
-  narrow-of : (room : ℕ) (t : Trees) → AreOf k (kind_at s k).hi t → spine s t ≤ room → IsNarrow room t
-  narrow-of room done h l = tt
-  narrow-of room (absent t) h l = narrow-of room t h l
-  narrow-of room (node i m run ls t) h l =
+  narrow-of : (levels : ℕ) (t : Trees) → AreOf k (kind_at s k).hi t → spine s t ≤ levels → IsNarrow levels t
+  narrow-of levels done h l = tt
+  narrow-of levels (absent t) h l = narrow-of levels t h l
+  narrow-of levels (node i m run ls t) h l =
       let e = spine-node m (spine s ls) (spine s t) h.0 in
-      (omega arith, h.2, narrow-of (room - 1) ls h.3 (omega arith), narrow-of room t h.4 (omega arith))
+      (omega arith, h.2, narrow-of (levels - 1) ls h.3 (omega arith), narrow-of levels t h.4 (omega arith))
 
   spine-of : (d : ℕ) (t : Trees) → AreOf k (kind_at s k).hi t → IsNarrow d t → spine s t ≤ d
   spine-of d done h n = omega arith
@@ -241,7 +241,7 @@ conform-links s k (rooted i m run ls) h f = (h.1.hangs, h.1.rising)
 conform-links s k (flat i run) h f = absurd (f h.0)
 
 module _ (s : List NodeKind) (k : ℕ) (a : ArenaState) (st : Structure) (t : Tree) (sound : AreSound s) (shape : shape_at s k ≡ Ends k k)
-    (h : Holds s k a st t) where
+    (h : IsStructure s k a st t) where
   not-flat : shape_at s k ≢ Flat
   not-flat e = let z : Ends k k ≡ Flat = sym shape ∙ e in cc
 

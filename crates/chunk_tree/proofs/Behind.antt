@@ -1,5 +1,5 @@
 -- What stays behind a new node that goes in before it, and a new node with one element.
-use Rattle.std.proofs.Common.{◌≡◌, ◌≢◌, ◌≤◌, ◌+◌, ℕ, max, List, [], ◌∷◌, ◌++◌, map, length, Option, Some, None, IsSome, is_some, true, refl, ap, ◌∙◌, sym, subst, arith, append-nil}
+use Rattle.std.proofs.Common.{◌≡◌, ◌≤◌, ◌+◌, ℕ, max, List, [], ◌∷◌, ◌++◌, map, length, Option, Some, None, IsSome, is_some, true, refl, ap, ◌∙◌, sym, subst, arith, append-nil}
 use Rattle.node_arena.specs.declared.elements.Elem.{Elem}
 use Rattle.node_arena.specs.declared.kinds.NodeKind.{NodeKind}
 use Rattle.node_arena.specs.declared.kinds.Shape.{Shape}
@@ -33,6 +33,7 @@ trees_before Woven v = v
 pub record Behind (s : List NodeKind) (q : ℕ) (upper : List Elem) (v vs : Trees) : Type 0 where
   pub stands : (a : ArenaState) → Stands a v → Stands a vs
   pub avoids : (j : ℕ) → Avoids j v → Avoids j vs
+  pub stays : (j : ℕ) → Avoids j vs → Avoids j v
   pub once : IsReachedOnce v → IsReachedOnce vs
   pub level : IsLevel s v → IsLevel s vs
   pub level_at : IsLevelAt s (shape_at s q) vs
@@ -54,6 +55,7 @@ behind-by s q upper v (Post r) e is lo =
     record {
       stands = λ a h. h;
       avoids = λ j h. h;
+      stays = λ j h. h;
       once = λ h. h;
       level = λ h. h;
       level_at = subst (λ sh. IsLevelAt s sh v) (sym e) tt;
@@ -71,6 +73,7 @@ behind-by s q upper v (Ends p r) e is lo =
     record {
       stands = λ a h. h;
       avoids = λ j h. h;
+      stays = λ j h. h;
       once = λ h. h;
       level = λ h. h;
       level_at = level-ends s q p r (absent v) e;
@@ -108,8 +111,11 @@ module _ (s : List NodeKind) (a m : ArenaState) (i q j : ℕ) (upper : List Elem
         level = (b.level_at, b.level level, tt);
         spine_low = b.spine_low j;
         away = (node_differs a i j some free, b.avoids i av, tt);
-        keeps = λ n h w. c.node.others n (λ z. node_differs a n j h free (sym z));
-        news = λ n h w. (node_differs a n j h free, b.avoids n w.1, tt);
+        only = record {
+          others = λ n old new. c.node.others n (λ z. new.1.0 (sym z));
+          stays = λ n new. (new.0, b.stays n new.1.1, tt);
+          news = λ n h w. (w.0, (node_differs a n j h free, b.avoids n w.1, tt), tt);
+        };
       }
 
 -- ---- a new node with one element
@@ -134,9 +140,9 @@ module _ (s : List NodeKind) (x : Elem) (kind j : ℕ) (sound : AreSound s) (two
   leaf-spine = let e = ends-of (shape_at s kind) two in spine-ends s j kind e.0 e.1 (x ∷ []) (absent (absent done)) e.2
 
   -- nothing has become a leaf
-  pub leaf-turns : (a m : ArenaState) (i : ℕ) (t : Trees) → IsSome (node_at a i) → node_at a j ≡ None
+  pub leaf-turns : (a m : ArenaState) (i : ℕ) (t : Trees) → t ≡ absent done → IsSome (node_at a i) → node_at a j ≡ None
       → ChangesNode a m j (Some (stored kind (x ∷ []) (absent (absent done)))) → Turns s kind a m i t (leaf_of j kind x)
-  leaf-turns a m i t some free c =
+  leaf-turns a m i t nothing some free c =
       let e = ends-of (shape_at s kind) two in
       let rule : HasSoundLinks s (kind_at s kind) (Ends e.0 e.1) = subst (HasSoundLinks s (kind_at s kind)) e.2 (sound.links kind) in
       let least : (whole s kind).least ≤ 1 = subst (λ sh. least_of (kind_at s kind) sh ≤ 1) (sym e.2) (omega (arith, rule.0)) in
@@ -156,6 +162,9 @@ module _ (s : List NodeKind) (x : Elem) (kind j : ℕ) (sound : AreSound s) (two
         level = (level-ends s kind e.0 e.1 (absent (absent done)) e.2, tt, tt);
         spine_low = omega arith;
         away = (node_differs a i j some free, tt, tt);
-        keeps = λ n h w. c.node.others n (λ z. node_differs a n j h free (sym z));
-        news = λ n h w. (node_differs a n j h free, tt, tt);
+        only = record {
+          others = λ n old new. c.node.others n (λ z. new.1.0 (sym z));
+          stays = λ n new. (new.0, subst (Avoids n) (sym nothing) tt, tt);
+          news = λ n h w. (w.0, (node_differs a n j h free, tt, tt), tt);
+        };
       }

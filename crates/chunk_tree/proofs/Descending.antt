@@ -12,16 +12,17 @@ use Rattle.node_arena.specs.Passing.{IsDone, deeper}
 use Rattle.node_arena.specs.Rules.{AreSound}
 use Rattle.node_arena.specs.Trees.{Trees, done, absent, node, roots, stored, Stands, Avoids, IsReachedOnce}
 use Rattle.node_arena.specs.Walks.{walk}
+use Rattle.node_arena.proofs.ChangesLemmas.{KeepsOutside-only}
 use Rattle.node_arena.proofs.DepthsLemmas.{deeper-first, deeper-deeper}
 use Rattle.node_arena.proofs.PlacesLemmas.{hang-none}
 use Rattle.node_arena.proofs.RowsLemmas.{beside, roots-beside}
 use Rattle.chunk_tree.specs.Descents.{Chunks, IsWithin, Comes, Finds}
-use Rattle.chunk_tree.specs.Ways.{Takes, next_on, first_of, last_of, link_of, kind_on, has_two_links}
+use Rattle.chunk_tree.specs.Ways.{Takes, next_on, first_of, last_of, link_in, kind_on, has_two_links}
 use Rattle.chunk_tree.proofs.Behind.{ends-of}
-use Rattle.chunk_tree.proofs.Opening.{Opened, opened, pre-hangs, post-hangs, both-stand, both-avoid, both-once, both-level, pre-rises, post-rises, some-node, length-walk, lacks-parts, pre-turned, post-turned, pre-deepens, post-deepens}
+use Rattle.chunk_tree.proofs.Opening.{Opened, opened, pre-hangs, post-hangs, both-stand, both-avoid, both-once, both-level, pre-rises, post-rises, some-node, length-walk, lacks-parts, pre-turned, post-turned, pre-goes, post-goes}
 use Rattle.chunk_tree.proofs.Order.{goes-pre, goes-post}
 use Rattle.chunk_tree.proofs.Pairs.{head_of, tail_of, parted, One, roots-head, roots-tail}
-use Rattle.chunk_tree.proofs.Turning.{Turns}
+use Rattle.chunk_tree.proofs.Turning.{Turns, with-only}
 
 -- ---- the root
 
@@ -45,7 +46,7 @@ chunks-some s a i t c = let st = subst (Stands a) c.is c.stands in subst IsSome 
 
 -- no node is written
 unchanged : (a : ArenaState) (i : ℕ) (n : NodeState) → node_at a i ≡ Some n → ChangesNode a a i (Some n)
-unchanged a i n e = record { node = record { changed = e; others = λ j h. refl; most = refl }; runs = refl }
+unchanged a i n e = record { node = record { changed = e; others = λ j h. refl; most = refl; places = refl }; runs = refl }
 
 -- what has x put in has become another tree
 pub turns-done : (s : List NodeKind) (p : ℕ) (a b : ArenaState) (x : Elem) (i : ℕ) (t : Trees) → Hang s (whole s p ∷ []) t → IsLevel s t → Avoids i t
@@ -56,9 +57,8 @@ turns-done s p a b x i t hang level av some deep r = record {
   hangs = r.puts.hangs p hang;
   level = r.puts.level level;
   spine_low = r.puts.spine_low;
-  away = r.puts.news i some av;
-  keeps = λ j h w. r.puts.keeps j h w.1;
-  news = λ j h w. r.puts.news j h w.1;
+  away = r.puts.only.news i some av;
+  only = with-only a b i t r.tree r.puts.only;
 }
 
 module _ (s : List NodeKind) (a : ArenaState) (x : Elem) (i k p q : ℕ) (run : List Elem) (ls : Trees) (o : Opened s a i k p q run ls) where
@@ -69,7 +69,7 @@ module _ (s : List NodeKind) (a : ArenaState) (x : Elem) (i k p q : ℕ) (run : 
         let v = tail_of ls in
         let one : One r.tree = ap length r.same_root ∙ o.one in
         let ch : ChangesNode b b i (Some (stored k run (beside r.tree v))) = unchanged b i (stored k run (beside r.tree v))
-        (r.puts.keeps i (some-node s a i k p q run ls o) (both-avoid s a i k p q run ls o).0 ∙ o.stands.0
+        (KeepsOutside-only a b (head_of ls) r.tree r.puts.only i (some-node s a i k p q run ls o) (both-avoid s a i k p q run ls o).0 ∙ o.stands.0
         ∙ ap (λ w. Some (record { kind = k; run = run; links = w }))
         (ap roots (parted ls) ∙ roots-beside (head_of ls) v ∙ ap (λ w. w ++ roots v) (sym r.same_root) ∙ sym (roots-beside r.tree v))) in
         record {
@@ -80,7 +80,7 @@ module _ (s : List NodeKind) (a : ArenaState) (x : Elem) (i k p q : ℕ) (run : 
               (some-node s a i k p q run ls o) deep r)
               one ch
               (ap (λ w. w ++ (run ++ walk s v)) r.puts.walk_is ∙ sym (goes-pre x (walk s (head_of ls)) run (walk s v) o.low less));
-          deepens = pre-deepens s a i k p q run ls o deep r.tree run r.deepens;
+          goes = pre-goes s a i k p q run ls o a a b b deep r.tree run r.goes (λ j free. free) (λ j free. refl);
         };
     lacks = λ h. (lacks-parts s a i k p q run ls o x.at h).0;
     spine_low = let e = o.spine_is in omega arith;
@@ -93,7 +93,7 @@ module _ (s : List NodeKind) (a : ArenaState) (x : Elem) (i k p q : ℕ) (run : 
     lift = λ b deep r.
         let u = head_of ls in
         let ch : ChangesNode b b i (Some (stored k run (beside u r.tree))) = unchanged b i (stored k run (beside u r.tree))
-        (r.puts.keeps i (some-node s a i k p q run ls o) (both-avoid s a i k p q run ls o).1 ∙ o.stands.0
+        (KeepsOutside-only a b (tail_of ls) r.tree r.puts.only i (some-node s a i k p q run ls o) (both-avoid s a i k p q run ls o).1 ∙ o.stands.0
         ∙ ap (λ w. Some (record { kind = k; run = run; links = w }))
         (ap roots (parted ls) ∙ roots-beside u (tail_of ls) ∙ ap (λ w. roots u ++ w) (sym r.same_root) ∙ sym (roots-beside u r.tree))) in
         record {
@@ -104,7 +104,7 @@ module _ (s : List NodeKind) (a : ArenaState) (x : Elem) (i k p q : ℕ) (run : 
               (some-node s a i k p q run ls o) deep r)
               ch
               (ap (λ w. walk s u ++ (run ++ w)) r.puts.walk_is ∙ sym (goes-post x (walk s u) run (walk s (tail_of ls)) o.low o.rising more));
-          deepens = post-deepens s a i k p q run ls o deep r.tree run r.deepens;
+          goes = post-goes s a i k p q run ls o a a b b deep r.tree run r.goes (λ j free. free) (λ j free. refl);
         };
     lacks = λ h. (lacks-parts s a i k p q run ls o x.at h).2;
     spine_low = let e = o.spine_is in omega arith;
@@ -115,7 +115,7 @@ module _ (s : List NodeKind) (a : ArenaState) (x : Elem) (i k p q : ℕ) (run : 
 within-trans : (s : List NodeKind) (a : ArenaState) (x : Elem) (n m : ℕ) (t u v : Trees) → IsWithin s a x n t u → IsWithin s a x m u v
     → IsWithin s a x (m + n) t v
 within-trans s a x n m t u v h g = record {
-  lift = λ b deep r. subst (IsDone s a b x v) (deeper-deeper m n deep) (g.lift b (deeper (Some n) deep) (h.lift b deep r));
+  lift = λ b deep r. subst (IsDone s a b x v) (deeper-deeper m n deep) (g.lift b (deeper n deep) (h.lift b deep r));
   lacks = λ l. h.lacks (g.lacks l);
   spine_low = let e = h.spine_low in let f = g.spine_low in omega arith;
   fewer = let e = h.fewer in let f = g.fewer in omega arith;
@@ -163,23 +163,23 @@ module _ (s : List NodeKind) (a : ArenaState) (i : ℕ) (t : Trees) (n : NodeSta
   chunks-next (Some sides.Pre) c h e next =
       let o = open-chunks s a i t sound h in
       let same : n ≡ stored h.kind h.run h.links = is_stored s a i _ _ _ _ _ n o e in
-      let two = if-some (has_two_links (shape_at s (kind_on (shape_at s n.kind) sides.Pre))) (link_of n 0) c next in
+      let two = if-some (has_two_links (shape_at s (kind_on (shape_at s n.kind) sides.Pre))) (link_in n 0) c next in
       let kind : kind_on (shape_at s n.kind) sides.Pre ≡ h.pre = ap (λ v. kind_on (shape_at s v.kind) sides.Pre) same
       ∙ ap (λ sh. kind_on sh sides.Pre) h.shape in
       let most : spine s (node i h.kind h.run h.links done) ≤ MOST_SPINE = subst (λ u. spine s u ≤ MOST_SPINE) h.is h.conforms.low in
       chunk-at s a h.pre c (head_of h.links) (subst (λ m. has_two_links (shape_at s m) ≡ true) kind two.0) (pre-hangs s a i _ _ _ _ _ o)
       (both-stand s a i _ _ _ _ _ o).0 (both-once s a i _ _ _ _ _ o).0 (both-level s a i _ _ _ _ _ o).0 (pre-rises s a i _ _ _ _ _ o)
-      (omega (arith, o.spine_is)) (roots-head h.links ∙ subst (λ v. link_of v 0 ≡ Some c) same two.1)
+      (omega (arith, o.spine_is)) (roots-head h.links ∙ subst (λ v. link_in v 0 ≡ Some c) same two.1)
   chunks-next (Some sides.Post) c h e next =
       let o = open-chunks s a i t sound h in
       let same : n ≡ stored h.kind h.run h.links = is_stored s a i _ _ _ _ _ n o e in
-      let two = if-some (has_two_links (shape_at s (kind_on (shape_at s n.kind) sides.Post))) (link_of n 1) c next in
+      let two = if-some (has_two_links (shape_at s (kind_on (shape_at s n.kind) sides.Post))) (link_in n 1) c next in
       let kind : kind_on (shape_at s n.kind) sides.Post ≡ h.post = ap (λ v. kind_on (shape_at s v.kind) sides.Post) same
       ∙ ap (λ sh. kind_on sh sides.Post) h.shape in
       let most : spine s (node i h.kind h.run h.links done) ≤ MOST_SPINE = subst (λ u. spine s u ≤ MOST_SPINE) h.is h.conforms.low in
       chunk-at s a h.post c (tail_of h.links) (subst (λ m. has_two_links (shape_at s m) ≡ true) kind two.0) (post-hangs s a i _ _ _ _ _ o)
       (both-stand s a i _ _ _ _ _ o).1 (both-once s a i _ _ _ _ _ o).1 (both-level s a i _ _ _ _ _ o).1 (post-rises s a i _ _ _ _ _ o)
-      (omega (arith, o.spine_is)) (roots-tail h.links ∙ subst (λ v. link_of v 1 ≡ Some c) same two.1)
+      (omega (arith, o.spine_is)) (roots-tail h.links ∙ subst (λ v. link_in v 1 ≡ Some c) same two.1)
 
   within-next : (x : Elem) (way : Option Side) (c hi : ℕ) → (h : Chunks s a i t) → node_at a i ≡ Some n → Takes hi x.at n way → next_on s n way ≡ Some c
       → IsWithin s a x 1 (tree_on way h.links) t

@@ -4,24 +4,27 @@ use Rattle.node_arena.specs.declared.elements.Elem.{Elem}
 use Rattle.node_arena.specs.declared.elements.Side.TheVariants as sides
 use Rattle.node_arena.specs.declared.kinds.NodeKind.{NodeKind}
 use Rattle.node_arena.specs.declared.kinds.Shape.TheVariants.{Woven}
-use Rattle.node_arena.specs.Arenas.{ArenaState, ChangesNode}
+use Rattle.node_arena.specs.Arenas.{ArenaState, node_at, ChangesNode}
 use Rattle.node_arena.specs.Conforming.{Hang, whole, IsLevel, spine}
 use Rattle.node_arena.specs.Insertions.{put_in}
 use Rattle.node_arena.specs.Kinds.{kind_at, shape_at}
-use Rattle.node_arena.specs.Passing.{IsDone, Deepens, wedge_depth}
+use Rattle.node_arena.specs.Passing.{IsDone, Deepens, PushesDown, wedge_depth}
 use Rattle.node_arena.specs.Rules.{AreSound, post_of}
 use Rattle.node_arena.specs.Trees.{Trees, done, node, roots, stored, Stands, Avoids, IsReachedOnce}
 use Rattle.node_arena.specs.Walks.{walk}
-use Rattle.node_arena.proofs.DepthsLemmas.{wedge_depth-deeper}
+use Rattle.node_arena.proofs.ChangesLemmas.{node_differs, ChangesOnly-same}
+use Rattle.node_arena.proofs.DepthsLemmas.{wedge_depth-deeper, wedge_depth-pushes, GoesDeep-told}
+use Rattle.node_arena.proofs.FramesLemmas.{Avoids-root}
 use Rattle.node_arena.proofs.PutInLemmas.{length-put_in}
-use Rattle.node_arena.proofs.RowsLemmas.{beside, roots-beside}
+use Rattle.node_arena.proofs.RowsLemmas.{beside, roots-beside, beside-Avoids}
 use Rattle.chunk_tree.specs.Ways.{Takes, first_of, last_of, kind_on, has_two_links}
 use Rattle.chunk_tree.specs.Writes.{Fits, Wedges, links_before, Hangs}
 use Rattle.chunk_tree.proofs.Behind.{behind, trees_before, wedge-turns, leaf_of, leaf-turns, leaf-walk, leaf-spine}
 use Rattle.chunk_tree.proofs.Opening.{Opened, nothing-at, pre-hangs, post-hangs, both-stand, both-avoid, both-once, both-level, some-node, pre-turned, post-turned, pre-deepens, post-deepens, head-root, tail-root}
+use Rattle.chunk_tree.proofs.Options.{and_known}
 use Rattle.chunk_tree.proofs.Order.{goes-run, goes-pre, goes-post}
-use Rattle.chunk_tree.proofs.Pairs.{head_of, tail_of, parted, roots-head, roots-tail, spine-join, spine-ends}
-use Rattle.chunk_tree.proofs.Turning.{Turns}
+use Rattle.chunk_tree.proofs.Pairs.{head_of, tail_of, parted, parts-avoid, roots-head, roots-tail, spine-join, spine-ends}
+use Rattle.chunk_tree.proofs.Turning.{Turns, with_number}
 
 -- nothing has become of it
 pub turns-same : (s : List NodeKind) (p : ℕ) (a : ArenaState) (i : ℕ) (t : Trees) → Stands a t → IsReachedOnce t → Hang s (whole s p ∷ []) t → IsLevel s t
@@ -34,8 +37,7 @@ turns-same s p a i t st once hang level av = record {
   level = level;
   spine_low = omega arith;
   away = av;
-  keeps = λ j h w. refl;
-  news = λ j h w. w.1;
+  only = ChangesOnly-same a (with_number i t);
 }
 
 -- a leaf where nothing was goes one deep
@@ -79,13 +81,26 @@ module _ (s : List NodeKind) (a b : ArenaState) (x : Elem) (i k p q : ℕ) (run 
             (both-level s a i k p q run ls o).1
             (both-avoid s a i k p q run ls o).1)
             ch (sym (run-walk (kind_at s k).hi takes));
-        deepens = let e = spine_is in let f = o.spine_is in omega arith;
+        goes = GoesDeep-told s a b (node i k run ls done) (node i k (put_in x run) (beside u v) done) 0
+            (let e = spine_is in let f = o.spine_is in omega arith);
       }
 
   post-own : shape_at s q ≢ Woven → (shape_at s q ≡ Woven) ⊎ ((post_of (shape_at s q) ≡ Some q) × (((kind_at s k).hi + 1) / 2 ≤ (kind_at s q).hi))
       → (post_of (shape_at s q) ≡ Some q) × (((kind_at s k).hi + 1) / 2 ≤ (kind_at s q).hi)
   post-own ne (inl e) = absurd (ne e)
   post-own ne (inr h) = h
+
+  -- a new node behind the run pushes down what hung there
+  pushed : (j : ℕ) → Wedges s x a b i (stored k run ls) j → (t : Trees) → (Avoids j t → ⊥)
+      → wedge_depth (shape_at s (kind_on (shape_at s k) sides.Post)) (is_some (get_or (roots ls) 1 None)) 1 ≡ None
+      → PushesDown a b (node i k run ls done) t
+  pushed j w t is_new =
+      let new : node_at b j ≡ Some (record { kind = w.kind; run = w.upper; links = links_before (shape_at s w.kind) (get_or (roots ls) 1 None) }) =
+      w.puts.node.others j (node_differs a i j (some-node s a i k p q run ls o) w.free) ∙ w.makes.node.changed in
+      wedge_depth-pushes a b (node i k run ls done) t (shape_at s (kind_on (shape_at s k) sides.Post)) (get_or (roots ls) 1 None) j 1 w.free is_new
+      (λ m is away. Avoids-root v m [] (tail-root s a i k p q run ls o ∙ ap (λ l. l ∷ []) is) (parts-avoid m ls away.1).1)
+      (λ y z m e is. and_known (node_at b j) (λ n. n.links ≡ None ∷ Some m ∷ []) _ new
+      (ap (λ l. links_before (shape_at s w.kind) l) is ∙ ap (λ h. links_before (shape_at s h) (Some m)) w.kind_is ∙ ap (λ sh. links_before sh (Some m)) e))
 
   -- the run is too long, and its upper part is a new node's
   pub wedged : (j : ℕ) → shape_at s (kind_on (shape_at s k) sides.Post) ≢ Woven → Takes (kind_at s k).hi x.at (stored k run ls) None
@@ -123,12 +138,15 @@ module _ (s : List NodeKind) (a b : ArenaState) (x : Elem) (i k p q : ℕ) (run 
             (subst (λ l. ChangesNode w.between b i (Some (record { kind = k; run = w.lower; links = l }))) links w.puts)
             (ap (λ z. walk s u ++ (w.lower ++ z)) (bh.walk_is j) ∙ ap (λ z. walk s u ++ z) (sym (append_assoc w.lower w.upper (walk s v)))
             ∙ ap (λ z. walk s u ++ (z ++ walk s v)) (sym w.parts.both) ∙ sym (run-walk (kind_at s k).hi takes));
-        deepens = subst (λ n. Deepens (wedge_depth (shape_at s n) (is_some (get_or (roots ls) 1 None)) 1) (spine s (node i k run ls done))
-            (spine s (node i k w.lower (beside u new) done))) (sym on)
-            (wedge_depth-deeper (shape_at s q) (is_some (get_or (roots ls) 1 None)) 1 0 (spine s (node i k run ls done))
-            (spine s (node i k w.lower (beside u new) done)) (omega (arith, o.spine_is))
-            (post-deepens s a i k p q run ls o (wedge_depth (shape_at s q) (is_some (get_or (roots ls) 1 None)) 0) new w.lower
-            (bh.deepens j (get_or (roots ls) 1 None) (tail-root s a i k p q run ls o))));
+        goes = record {
+          pushes = pushed j w (node i k w.lower (beside u new) done) (λ away. (beside-Avoids j u new away.1).1.0 refl);
+          deepens = subst (λ n. Deepens (wedge_depth (shape_at s n) (is_some (get_or (roots ls) 1 None)) 1) (spine s (node i k run ls done))
+              (spine s (node i k w.lower (beside u new) done))) (sym on)
+              (wedge_depth-deeper (shape_at s q) (is_some (get_or (roots ls) 1 None)) 1 0 (spine s (node i k run ls done))
+              (spine s (node i k w.lower (beside u new) done)) (omega (arith, o.spine_is))
+              (post-deepens s a i k p q run ls o (wedge_depth (shape_at s q) (is_some (get_or (roots ls) 1 None)) 0) new w.lower
+              (bh.deepens j (get_or (roots ls) 1 None) (tail-root s a i k p q run ls o))));
+        };
       }
 
   -- x alone is a new node's before the run
@@ -146,15 +164,16 @@ module _ (s : List NodeKind) (a b : ArenaState) (x : Elem) (i k p q : ℕ) (run 
         tree = node i k run (beside leaf v) done;
         same_root = refl;
         puts = pre-turned s a i k p q run ls o h.between b leaf run (x ∷ []) o.low o.high
-            (leaf-turns s x p j sound ends a h.between i u (some-node s a i k p q run ls o) h.free
+            (leaf-turns s x p j sound ends a h.between i u (nothing-at s (whole s p) u (pre-hangs s a i k p q run ls o) (roots-head ls ∙ none))
+            (some-node s a i k p q run ls o) h.free
             (subst (λ m. ChangesNode a h.between j (Some (record { kind = m; run = x ∷ []; links = None ∷ None ∷ [] }))) kind h.makes))
             refl
             (subst (λ l. ChangesNode h.between b i (Some (record { kind = k; run = run; links = l }))) links h.puts)
             (ap (λ z. z ++ (run ++ walk s v)) (leaf-walk s x p j sound ends ∙ sym (ap (put_in x) empty))
             ∙ sym (goes-pre x (walk s u) run (walk s v) o.low takes.0));
-        deepens = pre-deepens s a i k p q run ls o (Some 1) leaf run
+        goes = GoesDeep-told s a b (node i k run ls done) (node i k run (beside leaf v) done) 2 (pre-deepens s a i k p q run ls o (Some 1) leaf run
             (leaf-deepens (spine s u) (spine s leaf) (ap (spine s) (nothing-at s (whole s p) u (pre-hangs s a i k p q run ls o) (roots-head ls ∙ none)))
-            (leaf-spine s x p j sound ends));
+            (leaf-spine s x p j sound ends)));
       }
 
   -- x alone is a new node's behind the run
@@ -173,12 +192,13 @@ module _ (s : List NodeKind) (a b : ArenaState) (x : Elem) (i k p q : ℕ) (run 
         tree = node i k run (beside u leaf) done;
         same_root = refl;
         puts = post-turned s a i k p q run ls o h.between b leaf run (x ∷ []) o.low o.high
-            (leaf-turns s x q j sound ends a h.between i v (some-node s a i k p q run ls o) h.free
+            (leaf-turns s x q j sound ends a h.between i v (nothing-at s (whole s q) v (post-hangs s a i k p q run ls o) (roots-tail ls ∙ none))
+            (some-node s a i k p q run ls o) h.free
             (subst (λ m. ChangesNode a h.between j (Some (record { kind = m; run = x ∷ []; links = None ∷ None ∷ [] }))) kind h.makes))
             (subst (λ l. ChangesNode h.between b i (Some (record { kind = k; run = run; links = l }))) links h.puts)
             (ap (λ z. walk s u ++ (run ++ z)) (leaf-walk s x q j sound ends ∙ sym (ap (put_in x) empty))
             ∙ sym (goes-post x (walk s u) run (walk s v) o.low o.rising takes.0));
-        deepens = post-deepens s a i k p q run ls o (Some 1) leaf run
+        goes = GoesDeep-told s a b (node i k run ls done) (node i k run (beside u leaf) done) 2 (post-deepens s a i k p q run ls o (Some 1) leaf run
             (leaf-deepens (spine s v) (spine s leaf) (ap (spine s) (nothing-at s (whole s q) v (post-hangs s a i k p q run ls o) (roots-tail ls ∙ none)))
-            (leaf-spine s x q j sound ends));
+            (leaf-spine s x q j sound ends)));
       }

@@ -1,7 +1,7 @@
 -- A row of cells cut at its middle, and linked.
 use Rattle.std.proofs.Common.{◌≡◌, ◌≤◌, ◌<◌, ◌+◌, ◌-◌, ◌/◌, ◌^◌, ◌⊎◌, inl, inr, ℕ, zero, suc, List, [], ◌∷◌, ◌++◌, length, take, drop, get_or, Option, Some, None, IsSome, IfSome, refl, ap, ◌∙◌, sym, subst, arith, length-append}
 use Rattle.std.proofs.lemmas.List.{take-map, drop-map, length-map}
-use Rattle.node_arena.specs.Arenas.{ArenaState, NodeState, node_at, ChangesNode}
+use Rattle.node_arena.specs.Arenas.{ArenaState, node_at, ChangesNode}
 use Rattle.node_arena.specs.Trees.{Trees, done, absent, node, roots, Stands, Avoids, IsApart}
 use Rattle.node_arena.proofs.FramesLemmas.{IsApart-done, Stands-changed, Stands-outside}
 use Rattle.node_arena.proofs.RowsLemmas.{beside, roots-beside, Stands-beside, Avoids-beside, IsReachedOnce-beside}
@@ -202,9 +202,3 @@ none-linked a ids cs e l =
     nothing : (xs : List Cell) → length xs ≡ 0 → xs ≡ []
     nothing [] h = refl
     nothing (x ∷ xs) h = absurd (omega arith)
-
--- what a write of links keeps besides nodes
-pub links-rest : (n b : ArenaState) (i : ℕ) (o : Option NodeState) (f : NodeState → NodeState) → IsSome o → IfSome o (λ v. ChangesNode n b i (Some (f v)))
-    → (b.runs ≡ n.runs) × (b.nodes.most ≡ n.nodes.most)
-links-rest n b i None f h g = cc
-links-rest n b i (Some v) f h g = (g.runs, g.node.most)

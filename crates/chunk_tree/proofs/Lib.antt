@@ -15,6 +15,7 @@ pub mod Halves
 pub mod Listing
 pub mod Handed
 pub mod Freeing
+pub mod Kept
 pub mod Anew
 pub mod Counting
 pub mod Renewed

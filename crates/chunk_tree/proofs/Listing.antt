@@ -8,7 +8,8 @@ use Rattle.node_arena.specs.Insertions.{Misses}
 use Rattle.node_arena.specs.Trees.{Trees, done, absent, node, roots, stored, Stands, Avoids, IsApart, IsReachedOnce}
 use Rattle.node_arena.proofs.RowsLemmas.{beside, roots-beside, Stands-beside, Avoids-beside, beside-Avoids, IsReachedOnce-beside, IsApart-flip}
 use Rattle.iter_gen.specs.LookingUp.{HasNode}
-use Rattle.chunk_tree.specs.Numbering.{present, count, AreNodes, AllAvoid, HangsAt, AreNumbersOf, Lists}
+use Rattle.chunk_tree.specs.Balancing.{node_count}
+use Rattle.chunk_tree.specs.Numbering.{present, AreNodes, AllAvoid, HangsAt, AreNumbersOf, Lists}
 
 -- ---- numbers
 
@@ -88,15 +89,15 @@ IsReachedOnce-solid done h = tt
 IsReachedOnce-solid (absent t) h = IsReachedOnce-solid t h
 IsReachedOnce-solid (node i k run ls t) h = (h.0, Avoids-solid i t h.1, IsApart-solid ls t h.2, h.3, IsReachedOnce-solid t h.4)
 
-count-solid : (t : Trees) → count (solid t) ≡ count t
+count-solid : (t : Trees) → node_count (solid t) ≡ node_count t
 count-solid done = refl
 count-solid (absent t) = count-solid t
-count-solid (node i k run ls t) = ap (λ n. 1 + (count ls + n)) (count-solid t)
+count-solid (node i k run ls t) = ap (λ n. 1 + (node_count ls + n)) (count-solid t)
 
-count-beside : (t u : Trees) → count (beside t u) ≡ count t + count u
+count-beside : (t u : Trees) → node_count (beside t u) ≡ node_count t + node_count u
 count-beside done u = omega arith
 count-beside (absent t) u = count-beside t u
-count-beside (node i k run ls t) u = let ih : count (beside t u) ≡ count t + count u = count-beside t u in omega arith
+count-beside (node i k run ls t) u = let ih : node_count (beside t u) ≡ node_count t + node_count u = count-beside t u in omega arith
 
 -- ---- one node more
 
@@ -112,10 +113,10 @@ number-same i j e = cc
 node-same : (n m : NodeState) → Some n ≡ Some m → n ≡ m
 node-same n m e = cc
 
-module _ (a : ArenaState) (t : Trees) (most : ℕ) where
+module _ (a : ArenaState) (t : Trees) where
   -- nothing was looked at
-  pub listed-none : (link : Option ℕ) → HangsAt a link most t → Lists a t most [] (present (link ∷ []))
-  listed-none link h = record {
+  pub listed-none : (link : Option ℕ) (most : ℕ) → HangsAt a link most t → Lists a t [] (present (link ∷ []))
+  listed-none link most h = record {
     row = solid t;
     roots_are = roots-solid t ∙ ap (λ r. map Some (present r)) h.root;
     stands = Stands-solid a t h.stands;
@@ -124,7 +125,7 @@ module _ (a : ArenaState) (t : Trees) (most : ℕ) where
     apart = tt;
     all = λ i m v. solid-Avoids i t v;
     only = λ i v. (tt, Avoids-solid i t v);
-    few = let e = count-solid t in let f = h.few in omega arith;
+    counted = let e = count-solid t in omega arith;
   }
 
   -- the root of the row is looked at
@@ -132,12 +133,12 @@ module _ (a : ArenaState) (t : Trees) (most : ℕ) where
       → IsReachedOnce (node i k run ls row) → AreNodes a seen → AllAvoid (node i k run ls row) seen
       → ((j : ℕ) → Misses j seen → Avoids j (node i k run ls row) → Avoids j t)
       → ((j : ℕ) → Avoids j t → Misses j seen × Avoids j (node i k run ls row))
-      → length seen + count (node i k run ls row) ≤ most
-      → Lists a t most (seen ++ i ∷ []) (next ++ present (roots ls))
-  root-listed seen next i k run ls row e h o nodes apart all only few =
+      → length seen + node_count (node i k run ls row) ≡ node_count t
+      → Lists a t (seen ++ i ∷ []) (next ++ present (roots ls))
+  root-listed seen next i k run ls row e h o nodes apart all only counted =
       let len : length (seen ++ i ∷ []) ≡ length seen + 1 = length-append seen (i ∷ []) in
-      let both : count (beside row (solid ls)) ≡ count row + count (solid ls) = count-beside row (solid ls) in
-      let same : count (solid ls) ≡ count ls = count-solid ls in
+      let both : node_count (beside row (solid ls)) ≡ node_count row + node_count (solid ls) = count-beside row (solid ls) in
+      let same : node_count (solid ls) ≡ node_count ls = count-solid ls in
       let within : (j : ℕ) → Avoids j (node i k run ls row) → Avoids j (beside row (solid ls)) = λ j v. Avoids-beside j row (solid ls) v.2
       (Avoids-solid j ls v.1) in
       record {
@@ -154,45 +155,45 @@ module _ (a : ArenaState) (t : Trees) (most : ℕ) where
             let w = beside-Avoids j row (solid ls) v in
             all j p.0 (p.1.0, solid-Avoids j ls w.1, w.0);
         only = λ j v. let w = only j v in (Misses-join j seen (i ∷ []) w.0 (w.1.0, tt), within j w.1);
-        few = omega arith;
+        counted = omega arith;
       }
 
   -- the node that comes next is looked at
-  listed-one : (seen next : List ℕ) (j : ℕ) (n : NodeState) → node_at a j ≡ Some n → Lists a t most seen (j ∷ next)
-      → Lists a t most (seen ++ j ∷ []) (next ++ present n.links)
-  listed-one seen next j n there l = by l.row l.roots_are l.stands l.once l.apart l.all l.only l.few
+  listed-one : (seen next : List ℕ) (j : ℕ) (n : NodeState) → node_at a j ≡ Some n → Lists a t seen (j ∷ next)
+      → Lists a t (seen ++ j ∷ []) (next ++ present n.links)
+  listed-one seen next j n there l = by l.row l.roots_are l.stands l.once l.apart l.all l.only l.counted
     where
       by : (row : Trees) → roots row ≡ map Some (j ∷ next) → Stands a row → IsReachedOnce row → AllAvoid row seen
           → ((i : ℕ) → Misses i seen → Avoids i row → Avoids i t) → ((i : ℕ) → Avoids i t → Misses i seen × Avoids i row)
-          → length seen + count row ≤ most → Lists a t most (seen ++ j ∷ []) (next ++ present n.links)
-      by done e h o apart all only few = cc
-      by (absent row) e h o apart all only few = let f = head-same _ _ _ _ e in cc
-      by (node i k run ls row) e h o apart all only few =
+          → length seen + node_count row ≡ node_count t → Lists a t (seen ++ j ∷ []) (next ++ present n.links)
+      by done e h o apart all only counted = cc
+      by (absent row) e h o apart all only counted = let f = head-same _ _ _ _ e in cc
+      by (node i k run ls row) e h o apart all only counted =
           let same : i ≡ j = number-same i j (head-same (Some i) (Some j) (roots row) (map Some next) e) in
           let rest : roots row ≡ map Some next = tail-same (Some i) (Some j) (roots row) (map Some next) e in
           let is : stored k run ls ≡ n = node-same (stored k run ls) n (sym h.0 ∙ ap (node_at a) same ∙ there) in
           let links : roots ls ≡ n.links = ap (λ (v : NodeState). v.links) is in
-          subst (λ m. Lists a t most (seen ++ m ∷ []) (next ++ present n.links)) same
-          (subst (λ r. Lists a t most (seen ++ i ∷ []) (next ++ present r)) links
-          (root-listed seen next i k run ls row rest h o l.nodes apart all only few))
+          subst (λ m. Lists a t (seen ++ m ∷ []) (next ++ present n.links)) same
+          (subst (λ r. Lists a t (seen ++ i ∷ []) (next ++ present r)) links
+          (root-listed seen next i k run ls row rest h o l.nodes apart all only counted))
 
   -- the same where the numbers stand in one list
   pub listed-next : (ids more : List ℕ) (at j : ℕ) (n : NodeState) → at < length ids → j ≡ get_or ids at j → node_at a j ≡ Some n
-      → more ≡ ids ++ present n.links → Lists a t most (take at ids) (drop at ids) → Lists a t most (take (at + 1) more) (drop (at + 1) more)
+      → more ≡ ids ++ present n.links → Lists a t (take at ids) (drop at ids) → Lists a t (take (at + 1) more) (drop (at + 1) more)
   listed-next ids more at j n in_range is there e l =
       let split : drop at ids ≡ j ∷ drop (suc at) ids = drop-cons ids at j in_range ∙ ap (λ m. m ∷ drop (suc at) ids) (sym is) in
       let upto : take (suc at) ids ≡ take at ids ++ j ∷ [] = take-suc ids at j in_range ∙ ap (λ m. take at ids ++ m ∷ []) (sym is) in
       let step : suc at ≡ at + 1 = omega arith in
-      let w = listed-one (take at ids) (drop (suc at) ids) j n there (subst (Lists a t most (take at ids)) split l) in
+      let w = listed-one (take at ids) (drop (suc at) ids) j n there (subst (Lists a t (take at ids)) split l) in
       let first : take (at + 1) more ≡ take at ids ++ j ∷ [] =
       ap (λ m. take (at + 1) m) e ∙ take-append-le (at + 1) ids (present n.links) (omega arith) ∙ ap (λ m. take m ids) (sym step) ∙ upto in
       let second : drop (at + 1) more ≡ drop (suc at) ids ++ present n.links =
       ap (λ m. drop (at + 1) m) e ∙ drop-append-le (at + 1) ids (present n.links) (omega arith)
       ∙ ap (λ m. drop m ids ++ present n.links) (sym step) in
-      subst (λ m. Lists a t most m (drop (at + 1) more)) (sym first) (subst (Lists a t most (take at ids ++ j ∷ [])) (sym second) w)
+      subst (λ m. Lists a t m (drop (at + 1) more)) (sym first) (subst (Lists a t (take at ids ++ j ∷ [])) (sym second) w)
 
   -- there is a node at the number that comes next
-  pub next-there : (ids : List ℕ) (at j : ℕ) → at < length ids → j ≡ get_or ids at j → Lists a t most (take at ids) (drop at ids) → IsSome (node_at a j)
+  pub next-there : (ids : List ℕ) (at j : ℕ) → at < length ids → j ≡ get_or ids at j → Lists a t (take at ids) (drop at ids) → IsSome (node_at a j)
   next-there ids at j in_range is l =
       let split : drop at ids ≡ j ∷ drop (suc at) ids = drop-cons ids at j in_range ∙ ap (λ m. m ∷ drop (suc at) ids) (sym is) in
       by l.row (l.roots_are ∙ ap (map Some) split) l.stands
@@ -205,30 +206,30 @@ module _ (a : ArenaState) (t : Trees) (most : ℕ) where
           subst (λ m. IsSome (node_at a m)) same (subst IsSome (sym h.0) refl)
 
   -- all were looked at
-  pub listed-all : (seen next : List ℕ) → next ≡ [] → Lists a t most seen next → AreNumbersOf a t seen
-  listed-all seen next e l = by l.row (l.roots_are ∙ ap (map Some) e) l.all l.only
+  pub listed-all : (seen next : List ℕ) → next ≡ [] → Lists a t seen next → AreNumbersOf a t seen
+  listed-all seen next e l = by l.row (l.roots_are ∙ ap (map Some) e) l.all l.only l.counted
     where
       by : (row : Trees) → roots row ≡ [] → ((i : ℕ) → Misses i seen → Avoids i row → Avoids i t)
-          → ((i : ℕ) → Avoids i t → Misses i seen × Avoids i row) → AreNumbersOf a t seen
-      by done e all only = record { nodes = l.nodes; all = λ i m. all i m tt; only = λ i v. (only i v).0 }
-      by (absent row) e all only = cc
-      by (node i k run ls row) e all only = cc
+          → ((i : ℕ) → Avoids i t → Misses i seen × Avoids i row) → length seen + node_count row ≡ node_count t → AreNumbersOf a t seen
+      by done e all only counted = record { nodes = l.nodes; all = λ i m. all i m tt; only = λ i v. (only i v).0; counted = omega arith }
+      by (absent row) e all only counted = cc
+      by (node i k run ls row) e all only counted = cc
 
-  some-row : (row : Trees) (j : ℕ) (rest : List (Option ℕ)) → roots row ≡ Some j ∷ rest → 1 ≤ count row
+  some-row : (row : Trees) (j : ℕ) (rest : List (Option ℕ)) → roots row ≡ Some j ∷ rest → 1 ≤ node_count row
   some-row done j rest e = cc
   some-row (absent row) j rest e = let f = head-same _ _ _ _ e in cc
   some-row (node i k run ls row) j rest e = omega arith
 
   -- fewer were looked at than there are nodes
-  pub next-low : (ids : List ℕ) (at : ℕ) → at < length ids → Lists a t most (take at ids) (drop at ids) → at < most
-  next-low ids at in_range l =
+  pub next-low : (ids : List ℕ) (at most : ℕ) → node_count t ≤ most → at < length ids → Lists a t (take at ids) (drop at ids) → at < most
+  next-low ids at most few in_range l =
       let split : drop at ids ≡ get_or ids at 0 ∷ drop (suc at) ids = drop-cons ids at 0 in_range in
       let len : length (take at ids) ≡ at = length-take-le at ids (omega arith) in
       let some = some-row l.row (get_or ids at 0) (map Some (drop (suc at) ids)) (l.roots_are ∙ ap (map Some) split) in
-      let low = l.few in
+      let all = l.counted in
       omega arith
 
   -- all numbers in the list were looked at
-  pub listed-end : (ids : List ℕ) (at : ℕ) → length ids ≤ at → Lists a t most (take at ids) (drop at ids) → AreNumbersOf a t ids
+  pub listed-end : (ids : List ℕ) (at : ℕ) → length ids ≤ at → Lists a t (take at ids) (drop at ids) → AreNumbersOf a t ids
   listed-end ids at l h =
       subst (AreNumbersOf a t) (take_all at ids l) (listed-all (take at ids) (drop at ids) (drop_all at ids l) h)

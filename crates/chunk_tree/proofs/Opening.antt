@@ -7,15 +7,15 @@ use Rattle.node_arena.specs.Arenas.{ArenaState, node_at, ChangesNode}
 use Rattle.node_arena.specs.Conforming.{Hang, whole, IsLevel, spine, Place, IsRising, places, least_of, Conform}
 use Rattle.node_arena.specs.Insertions.{PutsIn, all_put_in, Lacks}
 use Rattle.node_arena.specs.Kinds.{kind_at, shape_at}
-use Rattle.node_arena.specs.Passing.{Deepens, deeper}
+use Rattle.node_arena.specs.Passing.{Deepens, GoesDeep, deeper}
 use Rattle.node_arena.specs.Rules.{AreSound, HasSoundLinks, MayFollow}
 use Rattle.node_arena.specs.Trees.{Trees, done, absent, node, roots, stored, Stands, Avoids, IsApart, IsReachedOnce}
 use Rattle.node_arena.specs.Walks.{walk}
-use Rattle.node_arena.proofs.DepthsLemmas.{Deepens-ends}
+use Rattle.node_arena.proofs.DepthsLemmas.{Deepens-ends, deeper-none, GoesDeep-within}
 use Rattle.node_arena.proofs.PlacesLemmas.{hang-none}
 use Rattle.node_arena.proofs.PutInLemmas.{IsRising-suffix, IsRising-prefix, append-Lacks}
 use Rattle.node_arena.proofs.RowsLemmas.{beside, roots-beside, beside-Stands, beside-Avoids, beside-IsReachedOnce}
-use Rattle.chunk_tree.proofs.Pairs.{head_of, tail_of, parted, beside-done, roots-head, roots-tail, One, walk-two, hang-parts, hang-join, hang-one, hang-node, level-parts, spine-join, spine-ends}
+use Rattle.chunk_tree.proofs.Pairs.{head_of, tail_of, parted, parts-avoid, beside-done, roots-head, roots-tail, One, walk-two, hang-parts, hang-join, hang-one, hang-node, level-parts, spine-join, spine-ends}
 use Rattle.chunk_tree.proofs.Turning.{Turns, turned}
 
 -- the root, and the trees before and behind its run
@@ -103,7 +103,7 @@ module _ (s : List NodeKind) (a : ArenaState) (i k p q : ℕ) (run : List Elem) 
   both-stand = beside-Stands a (head_of ls) (tail_of ls) (subst (Stands a) (parted ls) o.stands.1)
 
   pub both-avoid : Avoids i (head_of ls) × Avoids i (tail_of ls)
-  both-avoid = beside-Avoids i (head_of ls) (tail_of ls) (subst (Avoids i) (parted ls) o.once.0)
+  both-avoid = parts-avoid i ls o.once.0
 
   pub both-once : IsReachedOnce (head_of ls) × IsReachedOnce (tail_of ls) × IsApart (head_of ls) (tail_of ls)
   both-once = beside-IsReachedOnce (head_of ls) (tail_of ls) (subst IsReachedOnce (parted ls) o.once.3)
@@ -153,20 +153,35 @@ module _ (s : List NodeKind) (a : ArenaState) (i k p q : ℕ) (run : List Elem) 
 
   -- the spine, where another tree is before the run, or behind it
   pub pre-deepens : (deep : Option ℕ) (v : Trees) (new_run : List Elem) → Deepens deep (spine s (head_of ls)) (spine s v)
-      → Deepens (deeper (Some 1) deep) (spine s (node i k run ls done)) (spine s (node i k new_run (beside v (tail_of ls)) done))
+      → Deepens (deeper 1 deep) (spine s (node i k run ls done)) (spine s (node i k new_run (beside v (tail_of ls)) done))
   pre-deepens deep v new_run h =
       Deepens-ends deep (spine s (head_of ls)) (spine s v) (spine s (tail_of ls)) (spine s (node i k run ls done))
       (spine s (node i k new_run (beside v (tail_of ls)) done)) o.spine_is
       (spine-ends s i k p q new_run (beside v (tail_of ls)) o.shape ∙ ap (λ n. 1 + n) (spine-join s v (tail_of ls))) h
 
   pub post-deepens : (deep : Option ℕ) (v : Trees) (new_run : List Elem) → Deepens deep (spine s (tail_of ls)) (spine s v)
-      → Deepens (deeper (Some 1) deep) (spine s (node i k run ls done)) (spine s (node i k new_run (beside (head_of ls) v) done))
+      → Deepens (deeper 1 deep) (spine s (node i k run ls done)) (spine s (node i k new_run (beside (head_of ls) v) done))
   post-deepens deep v new_run h =
       let old : spine s (node i k run ls done) ≡ 1 + max (spine s (tail_of ls)) (spine s (head_of ls)) = let e = o.spine_is in omega arith in
       let new : spine s (node i k new_run (beside (head_of ls) v) done) ≡ 1 + max (spine s (head_of ls)) (spine s v) =
       spine-ends s i k p q new_run (beside (head_of ls) v) o.shape ∙ ap (λ n. 1 + n) (spine-join s (head_of ls) v) in
       Deepens-ends deep (spine s (tail_of ls)) (spine s v) (spine s (head_of ls)) (spine s (node i k run ls done))
       (spine s (node i k new_run (beside (head_of ls) v) done)) old (omega arith) h
+
+  -- the same of what is told, where only the root changes before and after
+  pub pre-goes : (b c d e : ArenaState) (deep : Option ℕ) (v : Trees) (new_run : List Elem) → GoesDeep s c d (head_of ls) v deep
+      → ((j : ℕ) → node_at c j ≡ None → node_at b j ≡ None) → ((j : ℕ) → node_at c j ≡ None → node_at e j ≡ node_at d j)
+      → GoesDeep s b e (node i k run ls done) (node i k new_run (beside v (tail_of ls)) done) (deeper 1 deep)
+  pre-goes b c d e deep v new_run h first last =
+      GoesDeep-within s b c d e (head_of ls) v (node i k run ls done) (node i k new_run (beside v (tail_of ls)) done) deep (deeper 1 deep) h
+      (pre-deepens deep v new_run h.deepens) (deeper-none 1 deep) first last (λ j w. (parts-avoid j ls w.1).0) (λ j w. (beside-Avoids j v (tail_of ls) w.1).0)
+
+  pub post-goes : (b c d e : ArenaState) (deep : Option ℕ) (v : Trees) (new_run : List Elem) → GoesDeep s c d (tail_of ls) v deep
+      → ((j : ℕ) → node_at c j ≡ None → node_at b j ≡ None) → ((j : ℕ) → node_at c j ≡ None → node_at e j ≡ node_at d j)
+      → GoesDeep s b e (node i k run ls done) (node i k new_run (beside (head_of ls) v) done) (deeper 1 deep)
+  post-goes b c d e deep v new_run h first last =
+      GoesDeep-within s b c d e (tail_of ls) v (node i k run ls done) (node i k new_run (beside (head_of ls) v) done) deep (deeper 1 deep) h
+      (post-deepens deep v new_run h.deepens) (deeper-none 1 deep) first last (λ j w. (parts-avoid j ls w.1).1) (λ j w. (beside-Avoids j (head_of ls) v w.1).1)
 
   -- the least number of elements where the root hangs
   least-here : (m : ℕ) → k ≡ m → (whole s m).least ≤ 1

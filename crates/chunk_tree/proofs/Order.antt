@@ -1,10 +1,9 @@
 -- Where an element goes in a list that rises.
-use Rattle.std.proofs.Common.{◌≡◌, ◌≢◌, ◌≤◌, ◌<◌, ◌+◌, ◌-◌, ◌⊎◌, inl, inr, ℕ, zero, suc, take, List, [], ◌∷◌, ◌++◌, length, refl, ap, ◌∙◌, sym, subst, arith, append-nil, Bool, true, false, ltb, cond, unwrap_or}
+use Rattle.std.proofs.Common.{◌≡◌, ◌≤◌, ◌<◌, ◌-◌, ◌⊎◌, inl, inr, ℕ, List, [], ◌∷◌, ◌++◌, length, refl, ap, ◌∙◌, sym, subst, arith, append-nil, Bool, true, false, ltb, cond, unwrap_or}
 use Rattle.node_arena.specs.declared.elements.Elem.{Elem}
 use Rattle.node_arena.specs.Arenas.{coordinate_at}
 use Rattle.node_arena.specs.Conforming.{RisesFrom, IsRising}
-use Rattle.node_arena.specs.Insertions.{put_in, all_put_in, Lacks}
-use Rattle.node_arena.specs.Passing.{AllLack}
+use Rattle.node_arena.specs.Insertions.{put_in}
 use Rattle.node_arena.proofs.PutInLemmas.{AllBelow, Reaches, AllBelow-rising, IsRising-prefix, IsRising-suffix, put_in-past, put_in-before}
 use Rattle.chunk_tree.specs.Ways.{first_of, last_of}
 

@@ -3,7 +3,7 @@ use Rattle.std.proofs.Common.{◌≡◌, ◌≤◌, ◌+◌, ℕ, suc, max, List
 use Rattle.node_arena.specs.declared.elements.Elem.{Elem}
 use Rattle.node_arena.specs.declared.kinds.NodeKind.{NodeKind}
 use Rattle.node_arena.specs.declared.kinds.Shape.TheVariants.{Ends}
-use Rattle.node_arena.specs.Trees.{Trees, done, absent, node, roots}
+use Rattle.node_arena.specs.Trees.{Trees, done, absent, node, roots, Avoids}
 use Rattle.node_arena.specs.Kinds.{shape_at, kind_at}
 use Rattle.node_arena.specs.Walks.{link, parts, joined, walk, walks}
 use Rattle.node_arena.specs.Conforming.{Hang, IsLevel, IsLevelAt, spine, spine_by, places, Place, whole, least_of}
@@ -28,6 +28,12 @@ pub parted : (t : Trees) → t ≡ beside (head_of t) (tail_of t)
 parted done = refl
 parted (absent t) = refl
 parted (node i k run ls t) = refl
+
+-- no node of either is no node of the row
+pub parts-avoid : (i : ℕ) (t : Trees) → Avoids i t → Avoids i (head_of t) × Avoids i (tail_of t)
+parts-avoid i done h = (tt, tt)
+parts-avoid i (absent t) h = (tt, h)
+parts-avoid i (node j k run ls t) h = ((h.0, h.1, tt), h.2)
 
 -- nothing beside it
 pub beside-done : (t : Trees) → beside t done ≡ t

@@ -14,7 +14,7 @@ use Rattle.chunk_tree.proofs.Options.{at_known}
 pub record Halves (s : List NodeKind) (x : Elem) (most : ℕ) (n : NodeState) (keep : ℕ) (items : List Elem) : Type 0 where
   pub within : keep ≤ length items
   pub lower_few : length (take keep items) ≤ 16
-  pub upper_few : length (drop keep items) ≤ 9
+  pub upper_few : length (drop keep items) ≤ 8
   pub lower_most : length (take keep items) ≤ most
   pub upper_most : length (drop keep items) ≤ most
   pub parts : IsParted s x n (take keep items) (drop keep items)

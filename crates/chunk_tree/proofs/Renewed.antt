@@ -1,7 +1,6 @@
 -- A structure that was built anew, and whose old nodes were freed.
 use Rattle.std.proofs.Common.{◌≡◌, ◌≢◌, ◌≤◌, ◌<◌, ◌+◌, ◌*◌, ◌^◌, ℕ, zero, suc, List, [], ◌∷◌, length, None, refl, ap, ◌∙◌, sym, subst, arith, slice_index_or}
-use Rattle.std.proofs.Math.Nat.{pow-zero, two-pow-succ}
-use Rattle.std.proofs.lemmas.Nat.{pow_pos}
+use Rattle.std.proofs.Math.Nat.{two-pow-succ}
 use Rattle.node_arena.specs.declared.elements.Elem.{Elem}
 use Rattle.node_arena.specs.declared.elements.Structure.{Structure}
 use Rattle.node_arena.specs.declared.kinds.NodeKind.{NodeKind}
@@ -10,12 +9,13 @@ use Rattle.node_arena.specs.Arenas.{ArenaState, node_at, run_at}
 use Rattle.node_arena.specs.Conforming.{IsRising, spine, spine_by}
 use Rattle.node_arena.specs.Insertions.{Misses}
 use Rattle.node_arena.specs.Kinds.{shape_at}
-use Rattle.node_arena.specs.Structures.{Tree, empty, rooted, flat, links_of, walk_of, spine_of, ConformTree, AvoidsRun, HaveOwnRuns, AreApart, Keeps}
+use Rattle.node_arena.specs.Structures.{Tree, empty, rooted, flat, links_of, walk_of, spine_of, ConformTree, HaveOwnRuns, AreApart, Keeps, IsStructure}
 use Rattle.node_arena.specs.Trees.{Trees, done, absent, node, IsApart}
 use Rattle.node_arena.proofs.ChangesLemmas.{Keeps-same, TakesNew-same}
+use Rattle.node_arena.proofs.HeightsLemmas.{pow-below}
 use Rattle.node_arena.proofs.StructuresLemmas.{IsStanding-outside, AreApart-new, AreApart-flip}
 use Rattle.bulk_build.specs.Building.{IsBuilt}
-use Rattle.chunk_tree.specs.Balancing.{Holds, IsRebalanced}
+use Rattle.chunk_tree.specs.Balancing.{IsRebalanced}
 use Rattle.chunk_tree.specs.Numbering.{AreNodes, AreNumbersOf}
 use Rattle.chunk_tree.proofs.Listing.{HasNode-avoided, AreNodes-kept}
 
@@ -28,15 +28,6 @@ declared-kind (x ∷ s) zero f = omega arith
 declared-kind (x ∷ s) (suc k) f = let ih : k < length s = declared-kind s k f in omega arith
 
 -- ---- powers of two
-
-pow-below : (h d : ℕ) → 2 ^ h < 2 ^ d → h < d
-pow-below h zero l = let s : 0 < 2 ^ h = pow_pos h in let o : 2 ^ 0 ≡ 1 = pow-zero 2 in absurd (omega arith)
-pow-below zero (suc d) l = omega arith
-pow-below (suc h) (suc d) l =
-    let a : 2 ^ suc h ≡ 2 ^ h + 2 ^ h = two-pow-succ h in
-    let b : 2 ^ suc d ≡ 2 ^ d + 2 ^ d = two-pow-succ d in
-    let ih : h < d = pow-below h d (omega arith) in
-    omega arith
 
 -- a spine of at most the binary digits of a number of 32 digits
 pub spine-few : (n len : ℕ) → 2 ^ n ≤ 2 * len + 1 → len < 4294967296 → n ≤ 32
@@ -51,7 +42,7 @@ spine-within n d len low above =
 
 -- ---- the structure as it is
 
-module _ (s : List NodeKind) (k : ℕ) (a : ArenaState) (st : Structure) (t : Tree) (h : Holds s k a st t) where
+module _ (s : List NodeKind) (k : ℕ) (a : ArenaState) (st : Structure) (t : Tree) (h : IsStructure s k a st t) where
   -- the structure, with a spine that is low enough
   pub as-it-is : (new : Structure) → new.top ≡ st.top → new.len ≡ st.len → spine_of s t ≤ new.spine → 2 ^ new.spine ≤ 2 * st.len + 1 → new.spine ≤ 32
       → IsRebalanced s k a a st t new
@@ -91,11 +82,6 @@ rising-walk s k empty c = tt
 rising-walk s k (flat i run) c = c.2
 rising-walk s k (rooted i m run ls) c = c.1.rising
 
-no-run : (s : List NodeKind) (k i : ℕ) (t : Tree) → shape_at s k ≢ Flat → ConformTree s k t → AvoidsRun i t
-no-run s k i empty f c = tt
-no-run s k i (rooted j m run ls) f c = tt
-no-run s k i (flat j run) f c = absurd (f c.0)
-
 nothing-apart : (t : Trees) → IsApart t (absent done)
 nothing-apart done = tt
 nothing-apart (absent t) = nothing-apart t
@@ -107,7 +93,7 @@ own-run (rooted i k run ls) = tt
 own-run (flat i run) = tt
 
 module _ (s : List NodeKind) (k : ℕ) (a b : ArenaState) (es : List Elem) (st new : Structure) (t : Tree) (linked : shape_at s k ≢ Flat)
-    (h : Holds s k a st t) (same : es ≡ walk_of s t) where
+    (h : IsStructure s k a st t) (same : es ≡ walk_of s t) where
   -- the elements rise
   pub rising-elems : IsRising es
   rising-elems = subst IsRising (sym same) (rising-walk s k t h.conforms.tree)
@@ -121,14 +107,10 @@ module _ (s : List NodeKind) (k : ℕ) (a b : ArenaState) (es : List Elem) (st n
     pub still-nodes : AreNodes b ids
     still-nodes = AreNodes-kept a b ids (λ i some. l.keeps.nodes i some tt) n.nodes
 
-    -- no run was made
-    pub runs-same : (i : ℕ) → run_at b i ≡ run_at a i
-    runs-same i = l.other_runs i (no-run s k i l.tree linked l.conforms.tree)
-
     -- the old nodes are freed
     pub renewed : (c : ArenaState) → ((i : ℕ) → (Misses i ids → ⊥) → node_at c i ≡ None) → ((i : ℕ) → Misses i ids → node_at c i ≡ node_at b i)
-        → c.runs ≡ b.runs → st.len < 4294967296 → IsRebalanced s k a c st t new
-    renewed c gone others runs few =
+        → c.runs ≡ b.runs → b.runs ≡ a.runs → st.len < 4294967296 → IsRebalanced s k a c st t new
+    renewed c gone others runs kept few =
         let walk_is : walk_of s l.tree ≡ walk_of s t = l.walk_is ∙ same in
         let len : length es ≡ st.len = counted-elems in
         let low : 2 ^ new.spine ≤ 2 * length es + 1 = l.spine_low in
@@ -145,7 +127,7 @@ module _ (s : List NodeKind) (k : ℕ) (a b : ArenaState) (es : List Elem) (st n
           spine_few = spine-few new.spine st.len (omega arith) few;
           keeps = record {
             nodes = λ i some v. others i (n.only i v) ∙ l.keeps.nodes i some tt;
-            runs = λ i some v. run_same i ∙ runs-same i;
+            runs = λ i some v. run_same i ∙ ap (λ r. slice_index_or r.slots i None) kept;
           };
           news = record { nodes = λ i some v. l.news.nodes i some tt; runs = λ i some v. l.news.runs i some tt };
           nodes = record {

@@ -9,12 +9,11 @@ use Rattle.node_arena.specs.Arenas.{ArenaState, node_at, ChangesNode}
 use Rattle.node_arena.specs.Conforming.{Hang, whole, places, least_of, IsLevel, IsLevelAt, IsRising, RisesFrom, spine, spine_by}
 use Rattle.node_arena.specs.Kinds.{kind_at, shape_at}
 use Rattle.node_arena.specs.Rules.{AreSound, Serves, HasSoundLinks, post_of}
-use Rattle.node_arena.specs.Structures.{Tree, empty, rooted, flat, links_of, top_of}
+use Rattle.node_arena.specs.Structures.{Tree, empty, rooted, flat, links_of, top_of, IsStructure}
 use Rattle.node_arena.specs.Trees.{Trees, done, absent, node, roots, Stands, IsReachedOnce}
 use Rattle.node_arena.specs.Walks.{joined, walk, walks, parts}
 use Rattle.node_arena.proofs.FramesLemmas.{Stands-changed, Avoids-free, IsApart-done}
 use Rattle.bulk_build.specs.Building.{IsAsBefore}
-use Rattle.chunk_tree.specs.Balancing.{Holds}
 use Rattle.chunk_tree.specs.RowTrials.{root_shape, AreForRows, IsRow, woven_kinds}
 use Rattle.chunk_tree.specs.Trials.{IsRooted}
 use Rattle.chunk_tree.specs.Relinking.{root_at}
@@ -192,11 +191,11 @@ no-rest x y t e = no-more t (ap length (tail-same x y (roots t) [] e))
 
 -- a row is a structure
 pub row-holds : (s : List NodeKind) (chained : Bool) (a : ArenaState) (i n : ℕ) → AreForRows s chained → IsRow s 0 a (Some i) 0 n → n ≤ 96
-    → (t : Tree) × Holds s 0 a (record { top = tops.Node i; len = n; spine = n }) t
+    → (t : Tree) × IsStructure s 0 a (record { top = tops.Node i; len = n; spine = n }) t
 row-holds s chained a i n h r few = by r.tree r.root r.stands r.once r.hangs r.level r.spine_low r.counted r.rising
   where
     by : (t : Trees) → roots t ≡ Some i ∷ [] → Stands a t → IsReachedOnce t → Hang s (whole s 0 ∷ []) t → IsLevel s t → spine s t + 0 ≤ n
-        → length (walk s t) + 0 ≡ n → IsRising (walk s t) → (u : Tree) × Holds s 0 a (record { top = tops.Node i; len = n; spine = n }) u
+        → length (walk s t) + 0 ≡ n → IsRising (walk s t) → (u : Tree) × IsStructure s 0 a (record { top = tops.Node i; len = n; spine = n }) u
     by done e st o g l low count up = cc
     by (absent t) e st o g l low count up = let f = head-same _ _ _ _ e in cc
     by (node j k run ls t) e st o g l low count up = with_rest t (no-rest (Some j) (Some i) t e) e st o g l low count up
@@ -204,7 +203,7 @@ row-holds s chained a i n h r few = by r.tree r.root r.stands r.once r.hangs r.l
         with_rest : (t : Trees) → t ≡ done → Some j ∷ roots t ≡ Some i ∷ [] → Stands a (node j k run ls t) → IsReachedOnce (node j k run ls t)
             → Hang s (whole s 0 ∷ []) (node j k run ls t) → IsLevel s (node j k run ls t) → spine s (node j k run ls t) + 0 ≤ n
             → length (walk s (node j k run ls t)) + 0 ≡ n → IsRising (walk s (node j k run ls t))
-            → (u : Tree) × Holds s 0 a (record { top = tops.Node i; len = n; spine = n }) u
+            → (u : Tree) × IsStructure s 0 a (record { top = tops.Node i; len = n; spine = n }) u
         with_rest (absent t) z e st o g l low count up = cc
         with_rest (node m p q r t) z e st o g l low count up = cc
         with_rest done z e st o g l low count up =
@@ -229,7 +228,7 @@ top-of a (flat i run) h = (tt, tt)
 top-of a (rooted i k run ls) h = (record { trees = node i k run ls done; roots_are = refl; stands = h }, subst IsSome (sym h.0) refl)
 
 -- the root of a structure stands
-pub holds-rooted : (s : List NodeKind) (a : ArenaState) (st : Structure) (t : Tree) → Holds s 0 a st t
+pub holds-rooted : (s : List NodeKind) (a : ArenaState) (st : Structure) (t : Tree) → IsStructure s 0 a st t
     → IfSome (root_at st.top) (IsRooted a) × IfSome (root_at st.top) (λ i. IsSome (node_at a i))
 holds-rooted s a st t h =
     subst (λ q. IfSome (root_at q) (IsRooted a) × IfSome (root_at q) (λ i. IsSome (node_at a i))) (sym h.stands.top) (top-of a t h.stands.nodes)
@@ -240,7 +239,7 @@ Stands-before a b (absent t) e h = Stands-before a b t e h
 Stands-before a b (node i k run ls t) e h = (e.nodes i ∙ h.0, Stands-before a b ls e h.1, Stands-before a b t e h.2)
 
 -- and so it does where all nodes are as before
-pub before-rooted : (s : List NodeKind) (a b : ArenaState) (st : Structure) (t : Tree) → Holds s 0 a st t → IsAsBefore a b
+pub before-rooted : (s : List NodeKind) (a b : ArenaState) (st : Structure) (t : Tree) → IsStructure s 0 a st t → IsAsBefore a b
     → IfSome (root_at st.top) (IsRooted b) × IfSome (root_at st.top) (λ i. IsSome (node_at b i))
 before-rooted s a b st t h e =
     subst (λ q. IfSome (root_at q) (IsRooted b) × IfSome (root_at q) (λ i. IsSome (node_at b i))) (sym h.stands.top)
@@ -283,7 +282,7 @@ pub woven-holds : (a b c d : ArenaState) (i j r spine : ℕ) (x0 x1 x2 x3 : Elem
     → node_at a i ≡ None → ChangesNode a b i (Some (record { kind = 1; run = x0 ∷ []; links = [] }))
     → node_at b j ≡ None → ChangesNode b c j (Some (record { kind = 1; run = x3 ∷ []; links = [] }))
     → node_at c r ≡ None → ChangesNode c d r (Some (record { kind = 0; run = x1 ∷ x2 ∷ []; links = Some i ∷ Some j ∷ [] }))
-    → 1 ≤ spine → spine ≤ 96 → (t : Tree) × Holds woven_kinds 0 d (record { top = tops.Node r; len = 4; spine = spine }) t
+    → 1 ≤ spine → spine ≤ 96 → (t : Tree) × IsStructure woven_kinds 0 d (record { top = tops.Node r; len = 4; spine = spine }) t
 woven-holds a b c d i j r sp x0 x1 x2 x3 e0 e1 e2 e3 free1 c1 free2 c2 free3 c3 some few =
     let leaf : Trees = node i 1 (x0 ∷ []) done done in
     let row : Trees = node i 1 (x0 ∷ []) done (node j 1 (x3 ∷ []) done done) in
@@ -327,7 +326,7 @@ woven-holds a b c d i j r sp x0 x1 x2 x3 e0 e1 e2 e3 free1 c1 free2 c2 free3 c3 
 -- ---- nothing
 
 -- an empty structure
-pub nothing-holds : (s : List NodeKind) (a : ArenaState) (n : ℕ) → n ≤ 96 → Holds s 0 a (record { top = tops.Empty; len = 0; spine = n }) empty
+pub nothing-holds : (s : List NodeKind) (a : ArenaState) (n : ℕ) → n ≤ 96 → IsStructure s 0 a (record { top = tops.Empty; len = 0; spine = n }) empty
 nothing-holds s a n few = record {
   stands = record { top = refl; nodes = tt; once = tt; run = tt; counted = refl };
   conforms = record { tree = tt; spine_kept = omega arith; spine_low = few };

@@ -24,7 +24,7 @@ use Rattle.node_arena.proofs.InsertionsLemmas.{IsPutIn-node}
 use Rattle.node_arena.proofs.PutInLemmas.{Lacks-put_in}
 use Rattle.chunk_tree.specs.Balancing.{IsRebalanced}
 use Rattle.chunk_tree.specs.Relinking.{root_at}
-use Rattle.chunk_tree.specs.Trials.{IsChunks, IsGrown, raised, IsRooted, mixed_kinds}
+use Rattle.chunk_tree.specs.Trials.{IsChunks, IsGrown, spine_after, IsRooted, mixed_kinds}
 use Rattle.chunk_tree.specs.Ways.{HasTwoLinks, has_two_links}
 use Rattle.chunk_tree.proofs.Behind.{leaf_of, leaf-walk}
 use Rattle.chunk_tree.proofs.Options.{and_known}
@@ -115,27 +115,24 @@ links-own s h zero side l e =
 links-own s h (suc k) side l e = let none : link_at Flat side ≡ Some l = subst (λ sh. link_at sh side ≡ Some l) (h.others k) e in cc
 
 -- nothing is passed on
-done-only : (s : List NodeKind) (a b : ArenaState) (x : Elem) (t : Trees) (step : Step) (n m : ℕ) → IsChunks s → Leaves s a b x t step n m
-    → IsDone s a b x t None
-done-only s a b x t (Done deep) n m h d = record { tree = d.tree; same_root = d.same_root; puts = d.puts; deepens = d.puts.spine_low }
-done-only s a b x t (Pass i side xs above) n m h d = absurd (d.other (links-own s h d.passer.kind side d.link d.has_link))
+pub record IsPut (s : List NodeKind) (a b : ArenaState) (x : Elem) (t : Trees) (kept : ℕ) (step : Step) : Type 0 where
+  pub deep : Option ℕ
+  pub is : IsDone s a b x t deep
+  pub enough : spine s is.tree ≤ spine_after kept step
+  pub low : spine_after kept step ≤ 96
 
--- the kept spine is enough
-raised-enough : (s : List NodeKind) (a b : ArenaState) (x : Elem) (t : Trees) (step : Step) (n m kept : ℕ) → (h : IsChunks s)
-    → (l : Leaves s a b x t step n m) → spine s t ≤ kept → kept ≤ 95
-    → (spine s (done-only s a b x t step n m h l).tree ≤ raised kept step) × (raised kept step ≤ 96)
-unfolding done-only
-raised-enough s a b x t (Done None) n m kept h d low few =
-    let same : spine s (done-only s a b x t (Done None) n m h d).tree ≡ spine s d.tree = refl in
+-- and the kept spine is enough
+pub is-put : (s : List NodeKind) (a b : ArenaState) (x : Elem) (t : Trees) (step : Step) (n m kept : ℕ) → IsChunks s → Leaves s a b x t step n m
+    → spine s t ≤ kept → kept ≤ 95 → IsPut s a b x t kept step
+is-put s a b x t (Done None) n m kept h d low few =
     let p = d.puts.spine_low in
-    (omega arith, omega arith)
-raised-enough s a b x t (Done (Some k)) n m kept h d low few =
-    let same : spine s (done-only s a b x t (Done (Some k)) n m h d).tree ≡ spine s d.tree = refl in
+    record { deep = None; is = d; enough = omega arith; low = omega arith }
+is-put s a b x t (Done (Some k)) n m kept h d low few =
     let p = d.puts.spine_low in
-    let e : spine s d.tree ≡ max (spine s t) k = d.deepens in
-    (omega arith, omega arith)
-raised-enough s a b x t (Pass i side xs above) n m kept h d low few =
-    absurd (d.other (links-own s h d.passer.kind side d.link d.has_link))
+    let e : spine s d.tree ≡ max (spine s t) k = d.goes.deepens in
+    record { deep = Some k; is = d; enough = omega arith; low = omega arith }
+is-put s a b x t (Pass i side xs above) n m kept h d low few =
+    absurd (d.on.other (links-own s h d.on.passer.kind side d.on.link d.on.has_link))
 
 -- ---- structures that grow
 
@@ -291,19 +288,19 @@ module _ (s : List NodeKind) (a : ArenaState) (st : Structure) (free : List Bool
   pub grown-next : (b : ArenaState) (new : Structure) (x : Elem) (at : ℕ) (step : Step) (n m : ℕ) → x.at ≡ at → get_or free at false ≡ true
       → at < length free → 0 < more → st.spine ≤ 95
       → ((t : Trees) → CanPutIn s a x root t → Leaves s a b x t step n m) → b.runs ≡ a.runs → b.nodes.most ≡ a.nodes.most → a.nodes.spare ≤ b.nodes.spare + 1
-      → new ≡ record { top = tops.Node root; len = st.len + 1; spine = raised st.spine step } → IsGrown s b new (slice_set free at false) (more - 1)
+      → new ≡ record { top = tops.Node root; len = st.len + 1; spine = spine_after st.spine step } → IsGrown s b new (slice_set free at false) (more - 1)
   grown-next b new x at step n m same is_free l some low left runs most spare is =
       let can = can-put x at same is_free in
-      let d = done-only s a b x (node root 0 the-root.run the-root.links done) step n m h (left (node root 0 the-root.run the-root.links done) can) in
       let kept : spine s (node root 0 the-root.run the-root.links done) ≤ st.spine = root-conforms.spine_kept in
-      let low_spine = raised-enough s a b x (node root 0 the-root.run the-root.links done) step n m st.spine h
+      let put = is-put s a b x (node root 0 the-root.run the-root.links done) step n m st.spine h
       (left (node root 0 the-root.run the-root.links done) can) kept low in
+      let d = put.is in
       let top_is = ap (λ (v : Structure). v.top) is in
       let len_is = ap (λ (v : Structure). v.len) is in
-      let spine_is : new.spine ≡ raised st.spine step = ap (λ (v : Structure). v.spine) is in
+      let spine_is : new.spine ≡ spine_after st.spine step = ap (λ (v : Structure). v.spine) is in
       let p : IsPutIn s 0 a b x (rooted root 0 the-root.run the-root.links) new =
       IsPutIn-node s 0 a b x st new root 0 the-root.run the-root.links root d.tree runs root-stands root-conforms can.lacks d.puts d.same_root top_is
-      len_is (omega (arith, spine_is, low_spine.0)) (omega (arith, spine_is, low_spine.1)) in
+      len_is (omega (arith, spine_is, put.enough)) (omega (arith, spine_is, put.low)) in
       record {
         tree = p.tree;
         holds = record { stands = p.stands; conforms = p.conforms };

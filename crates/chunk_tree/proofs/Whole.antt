@@ -1,5 +1,5 @@
 -- The end of the way and what is done there, as the code says it.
-use Rattle.std.proofs.Common.{◌≡◌, ◌≤◌, ◌+◌, inl, inr, ℕ, Bool, true, false, cond, List, [], ◌∷◌, get_or, Option, Some, None, IsSome, is_some, IsSomeAnd, IfSome, refl, ap, ◌∙◌, sym, subst, arith}
+use Rattle.std.proofs.Common.{◌≡◌, ◌≤◌, ◌+◌, inl, inr, ℕ, Bool, true, false, cond, List, [], ◌∷◌, get_or, Option, Some, None, is_some, IsSomeAnd, IfSome, refl, ap, ◌∙◌, sym, subst, arith}
 use Rattle.node_arena.specs.declared.elements.Elem.{Elem}
 use Rattle.node_arena.specs.declared.elements.Side.{Side}
 use Rattle.node_arena.specs.declared.elements.Side.TheVariants as sides
@@ -13,15 +13,14 @@ use Rattle.node_arena.specs.Arenas.{ArenaState, NodeState, node_at, ChangesNode}
 use Rattle.node_arena.specs.Conforming.{spine}
 use Rattle.node_arena.specs.Insertions.{Lacks, DifferInFew}
 use Rattle.node_arena.specs.Kinds.{kind_at, shape_at}
-use Rattle.node_arena.specs.Passing.{CanPutIn, IsDone, IsPassed, Leaves, IsTold, deeper, wedge_depth}
+use Rattle.node_arena.specs.Passing.{CanPutIn, IsDone, IsPassed, Leaves, deeper, wedge_depth}
 use Rattle.node_arena.specs.Rules.{AreSound, Serves}
 use Rattle.node_arena.specs.Trees.{Trees, done, node, roots, stored, Stands}
 use Rattle.node_arena.specs.Walks.{walk}
-use Rattle.node_arena.proofs.ChangesLemmas.{node_differs}
 use Rattle.node_arena.proofs.DepthsLemmas.{Deepens-within, wedge_depth-deeper, IsDone-told}
 use Rattle.chunk_tree.specs.Descents.{Chunks, IsWithin, Finds}
-use Rattle.chunk_tree.specs.Ways.{Takes, HasTwoLinks, next_on, kind_on, link_of, has_two_links}
-use Rattle.chunk_tree.specs.Writes.{HasKindsRun, Settles, GoesBeside, Wedges, links_before}
+use Rattle.chunk_tree.specs.Ways.{Takes, HasTwoLinks, next_on, kind_on, has_two_links}
+use Rattle.chunk_tree.specs.Writes.{HasKindsRun, GoesInside, GoesBeside}
 use Rattle.chunk_tree.proofs.Behind.{ends-of}
 use Rattle.chunk_tree.proofs.Descending.{open-chunks, is_stored}
 use Rattle.chunk_tree.proofs.Ending.{run-walk, fitted, wedged, hung-pre, hung-post}
@@ -85,7 +84,8 @@ module _ (s : List NodeKind) (a b : ArenaState) (x : Elem) (i above : ℕ) (t : 
   settled-run : (inner : Trees) → IsWithin s a x above inner t → IsDone s a b x inner (Some 0) → IsDone s a b x t (Some 0)
   settled-run inner w r =
       let q = w.lift b (Some 0) r in
-      IsDone-told s a b x t (Some (above + 0)) (Some 0) q (Deepens-within (above + 0) (spine s t) (spine s q.tree) (omega (arith, w.spine_low)) q.deepens)
+      IsDone-told s a b x t (Some (above + 0)) (Some 0) q (Deepens-within (above + 0) (spine s t) (spine s q.tree) (omega (arith, w.spine_low)) q.goes.deepens)
+      (λ e. cc)
 
   -- a new node behind the run goes deeper by those that are above
   settled-wedge : (inner : Trees) (kind : ℕ) (link : Option ℕ) → IsWithin s a x above inner t
@@ -93,12 +93,21 @@ module _ (s : List NodeKind) (a b : ArenaState) (x : Elem) (i above : ℕ) (t : 
   settled-wedge inner kind link w r =
       let told = wedge_depth (shape_at s kind) (is_some link) 1 in
       let q = w.lift b told r in
-      IsDone-told s a b x t (deeper (Some above) told) (wedge_depth (shape_at s kind) (is_some link) (above + 1)) q
-      (wedge_depth-deeper (shape_at s kind) (is_some link) above 1 (spine s t) (spine s q.tree) (omega (arith, w.spine_low)) q.deepens)
+      IsDone-told s a b x t (deeper above told) (wedge_depth (shape_at s kind) (is_some link) (above + 1)) q
+      (wedge_depth-deeper (shape_at s kind) (is_some link) above 1 (spine s t) (spine s q.tree) (omega (arith, w.spine_low)) q.goes.deepens)
+      (wedge-none (shape_at s kind) (is_some link))
+    where
+      -- where no depth is told, none was told at the node
+      wedge-none : (sh : Shape) (behind : Bool) → wedge_depth sh behind (above + 1) ≡ None → deeper above (wedge_depth sh behind 1) ≡ None
+      wedge-none Flat behind e = cc
+      wedge-none (Post q) behind e = cc
+      wedge-none (Ends p q) false e = cc
+      wedge-none (Ends p q) true e = refl
+      wedge-none Woven behind e = cc
 
   -- into the run
   settled : (f : Finds s a x i None above t) (step : Step)
-      → Settles s x a b i (stored f.comes.chunks.kind f.comes.chunks.run f.comes.chunks.links) above step n m → Leaves s a b x t step n m
+      → GoesInside s x a b i (stored f.comes.chunks.kind f.comes.chunks.run f.comes.chunks.links) above step n m → Leaves s a b x t step n m
   settled f (Done deep) (inl d) =
       let c = f.comes.chunks in
       subst (IsDone s a b x t) (sym d.2)
@@ -116,7 +125,7 @@ module _ (s : List NodeKind) (a b : ArenaState) (x : Elem) (i above : ℕ) (t : 
       let on : kind_on (shape_at s c.kind) sides.Post ≡ c.post = ap (λ sh. kind_on sh sides.Post) o.shape in
       let walks = o.walk_is in
       let cost = d.4 in
-      let told = Some (above + 1) in
+      let told = above + 1 in
       let p : IsPassed s a b x t i sides.Post xs.items told n (n + 1) =
       pass-cut s a x i c.kind c.pre c.post above c.run c.links t o (within-here s a x i None above t sound f) lacks
       (low-here s a x i None above t sound f) b xs.items n
@@ -154,7 +163,7 @@ module _ (s : List NodeKind) (a b : ArenaState) (x : Elem) (i above : ℕ) (t : 
       let c = f.comes.chunks in
       let o = here s a x i (Some sides.Pre) above t sound f in
       let on : kind_on (shape_at s c.kind) sides.Pre ≡ c.pre = ap (λ sh. kind_on sh sides.Pre) o.shape in
-      let told = Some (above + 1) in
+      let told = above + 1 in
       let p : IsPassed s a a x t i sides.Pre (x ∷ []) told n n =
       pass-pre s a x i c.kind c.pre c.post above c.run c.links t o (within-here s a x i (Some sides.Pre) above t sound f) lacks
       (low-here s a x i (Some sides.Pre) above t sound f) (kind_at s c.kind).hi n
@@ -168,7 +177,7 @@ module _ (s : List NodeKind) (a b : ArenaState) (x : Elem) (i above : ℕ) (t : 
       let c = f.comes.chunks in
       let o = here s a x i (Some sides.Post) above t sound f in
       let on : kind_on (shape_at s c.kind) sides.Post ≡ c.post = ap (λ sh. kind_on sh sides.Post) o.shape in
-      let told = Some (above + 1) in
+      let told = above + 1 in
       let p : IsPassed s a a x t i sides.Post (x ∷ []) told n n =
       pass-post s a x i c.kind c.pre c.post above c.run c.links t o (within-here s a x i (Some sides.Post) above t sound f) lacks
       (low-here s a x i (Some sides.Post) above t sound f) (kind_at s c.kind).hi n
@@ -180,11 +189,11 @@ module _ (s : List NodeKind) (a b : ArenaState) (x : Elem) (i above : ℕ) (t : 
       (subst (λ w. IsPassed s a a x t i sides.Post w told n m) (sym d.4) (subst (IsPassed s a a x t i sides.Post (x ∷ []) told n) (sym d.5) p)))))
 
   pub settle-leaves : (way : Option Side) → way ≡ None → (f : Finds s a x i way above t) (step : Step)
-      → IfSome (node_at a i) (λ v. Settles s x a b i v above step n m)
+      → IfSome (node_at a i) (λ v. GoesInside s x a b i v above step n m)
       → Leaves s a b x t step n m
   settle-leaves (Some side) e f step d = cc
   settle-leaves None e f step d =
-      settled f step (at_known (node_at a i) (λ v. Settles s x a b i v above step n m) _ (here s a x i None above t sound f).stands.0 d)
+      settled f step (at_known (node_at a i) (λ v. GoesInside s x a b i v above step n m) _ (here s a x i None above t sound f).stands.0 d)
 
   pub beside-leaves : (way : Option Side) (side : Side) → way ≡ Some side → (f : Finds s a x i way above t) (step : Step)
       → IfSome (node_at a i) (λ v. GoesBeside s x a b i v side above step n m)
@@ -198,14 +207,14 @@ module _ (s : List NodeKind) (a b : ArenaState) (x : Elem) (i above : ℕ) (t : 
 
 -- ---- what it costs
 
--- two nodes differ at most, one was made at most, the depth is told but where something was pushed down, and the rest is as before
-pub record Cheap (a b : ArenaState) (step : Step) (n m : ℕ) : Type 0 where
+-- two nodes differ at most, one was made at most, and the rest is as before
+pub record Cheap (a b : ArenaState) (n m : ℕ) : Type 0 where
   pub few : DifferInFew 2 a b
   pub spare : a.nodes.spare ≤ b.nodes.spare + 1
   pub steps : m ≤ n + 2
   pub runs : b.runs ≡ a.runs
   pub most : b.nodes.most ≡ a.nodes.most
-  pub told : IsTold a b step
+  pub places : b.nodes.places ≡ a.nodes.places
 
 few-one : (a b : ArenaState) (i : ℕ) (slot : Option NodeState) → ChangesNode a b i slot → DifferInFew 2 a b
 few-one a b i slot c = record { touched = i ∷ []; few = omega arith; others = λ j h. c.node.others j (λ e. h.0 (sym e)) }
@@ -220,31 +229,15 @@ few-two a m b i j slot next c d = record {
 few-none : (a b : ArenaState) → b ≡ a → DifferInFew 2 a b
 few-none a b e = record { touched = []; few = omega arith; others = λ k h. ap (λ c. node_at c k) e }
 
--- a new node behind a run tells its depth, but where it pushes something down
-wedge-told : (s : List NodeKind) (a b : ArenaState) (x : Elem) (i j above : ℕ) (v : NodeState) → IsSome (node_at a i) → Wedges s x a b i v j
-    → IsTold a b (Done (wedge_depth (shape_at s (kind_on (shape_at s v.kind) sides.Post)) (is_some (link_of v 1)) above))
-wedge-told s a b x i j above v some w =
-    let new : node_at b j ≡ Some (record { kind = w.kind; run = w.upper; links = links_before (shape_at s w.kind) (link_of v 1) }) =
-    w.puts.node.others j (node_differs a i j some w.free) ∙ w.makes.node.changed in
-    told (shape_at s (kind_on (shape_at s v.kind) sides.Post)) (link_of v 1)
-    (subst (λ k. IsSomeAnd (node_at b j) (λ n. n.links ≡ links_before (shape_at s k) (link_of v 1))) w.kind_is (and_known (node_at b j) _ _ new refl))
-  where
-    told : (sh : Shape) (l : Option ℕ) → IsSomeAnd (node_at b j) (λ n. n.links ≡ links_before sh l) → IsTold a b (Done (wedge_depth sh (is_some l) above))
-    told Flat l h = tt
-    told (Post q) l h = tt
-    told (Ends p q) None h = tt
-    told (Ends p q) (Some m) h = (j, m, w.free, h)
-    told Woven l h = tt
-
-module _ (s : List NodeKind) (a b : ArenaState) (x : Elem) (i above n m : ℕ) (v : NodeState) (some : IsSome (node_at a i)) where
-  settled-cheap : (step : Step) → Settles s x a b i v above step n m → Cheap a b step n m
+module _ (s : List NodeKind) (a b : ArenaState) (x : Elem) (i above n m : ℕ) (v : NodeState) where
+  settled-cheap : (step : Step) → GoesInside s x a b i v above step n m → Cheap a b n m
   settled-cheap (Done deep) (inl d) = record {
     few = few-one a b i _ d.0.puts;
     spare = let e = d.1.0.spare in omega arith;
     steps = let e = d.1.1 in omega arith;
     runs = d.1.0.runs;
     most = d.1.0.most;
-    told = subst (λ l. IsTold a b (Done l)) (sym d.2) tt;
+    places = d.1.0.places;
   }
   settled-cheap (Done deep) (inr d) = record {
     few = few-two a d.1.1.between b i d.1.0 _ _ d.1.1.makes d.1.1.puts;
@@ -252,7 +245,7 @@ module _ (s : List NodeKind) (a b : ArenaState) (x : Elem) (i above n m : ℕ) (
     steps = let e = d.2.1 in omega arith;
     runs = d.2.0.runs;
     most = d.2.0.most;
-    told = subst (λ l. IsTold a b (Done l)) (sym d.3) (wedge-told s a b x i d.1.0 (above + 1) v some d.1.1);
+    places = d.2.0.places;
   }
   settled-cheap (Pass j side xs over) d = record {
     few = few-one a b i _ d.3.puts;
@@ -260,17 +253,17 @@ module _ (s : List NodeKind) (a b : ArenaState) (x : Elem) (i above n m : ℕ) (
     steps = let e = d.4.1 in omega arith;
     runs = d.4.0.runs;
     most = d.4.0.most;
-    told = subst (λ l. IsTold a b (Pass j side xs l)) (sym d.5) tt;
+    places = d.4.0.places;
   }
 
-  gone-cheap : (side : Side) (step : Step) → GoesBeside s x a b i v side above step n m → Cheap a b step n m
+  gone-cheap : (side : Side) (step : Step) → GoesBeside s x a b i v side above step n m → Cheap a b n m
   gone-cheap side (Done deep) d = record {
     few = few-two a d.1.1.between b i d.1.0 _ _ d.1.1.makes d.1.1.puts;
     spare = let e = d.2.0.spare in omega arith;
     steps = let e = d.2.1 in omega arith;
     runs = d.2.0.runs;
     most = d.2.0.most;
-    told = subst (λ l. IsTold a b (Done l)) (sym d.3) tt;
+    places = d.2.0.places;
   }
   gone-cheap side (Pass j to xs over) d = record {
     few = few-none a b d.3;
@@ -278,18 +271,18 @@ module _ (s : List NodeKind) (a b : ArenaState) (x : Elem) (i above n m : ℕ) (
     steps = let e = d.5 in omega arith;
     runs = ap (λ c. c.runs) d.3;
     most = ap (λ c. c.nodes.most) d.3;
-    told = subst (λ l. IsTold a b (Pass j to xs l)) (sym d.6) tt;
+    places = ap (λ c. c.nodes.places) d.3;
   }
 
 module _ (s : List NodeKind) (a b : ArenaState) (x : Elem) (i above n m : ℕ) where
-  pub settle-cheap : (step : Step) → IsSomeAnd (node_at a i) (HasKindsRun s a) → IfSome (node_at a i) (λ v. Settles s x a b i v above step n m)
-      → Cheap a b step n m
+  pub settle-cheap : (step : Step) → IsSomeAnd (node_at a i) (HasKindsRun s a) → IfSome (node_at a i) (λ v. GoesInside s x a b i v above step n m)
+      → Cheap a b n m
   settle-cheap step there d =
       let k = known (node_at a i) (HasKindsRun s a) there in
-      settled-cheap s a b x i above n m k.value (subst IsSome (sym k.is) refl) step (at_known (node_at a i) _ k.value k.is d)
+      settled-cheap s a b x i above n m k.value step (at_known (node_at a i) _ k.value k.is d)
 
   pub beside-cheap : (side : Side) (step : Step) → IsSomeAnd (node_at a i) (HasKindsRun s a)
-      → IfSome (node_at a i) (λ v. GoesBeside s x a b i v side above step n m) → Cheap a b step n m
+      → IfSome (node_at a i) (λ v. GoesBeside s x a b i v side above step n m) → Cheap a b n m
   beside-cheap side step there d =
       let k = known (node_at a i) (HasKindsRun s a) there in
-      gone-cheap s a b x i above n m k.value (subst IsSome (sym k.is) refl) side step (at_known (node_at a i) _ k.value k.is d)
+      gone-cheap s a b x i above n m k.value side step (at_known (node_at a i) _ k.value k.is d)

@@ -28,7 +28,7 @@ pub record Chunks (s : List NodeKind) (a : ArenaState) (i : ℕ) (t : Trees) : T
 
 -- what is done to the inner tree is done to the outer one, in which it lies below so many nodes with two links
 pub record IsWithin (s : List NodeKind) (a : ArenaState) (x : Elem) (above : ℕ) (inner outer : Trees) : Type 0 where
-  pub lift : (b : ArenaState) (deep : Option ℕ) → IsDone s a b x inner deep → IsDone s a b x outer (deeper (Some above) deep)
+  pub lift : (b : ArenaState) (deep : Option ℕ) → IsDone s a b x inner deep → IsDone s a b x outer (deeper above deep)
   pub lacks : Lacks x.at (walk s outer) → Lacks x.at (walk s inner)
   pub spine_low : above + spine s inner ≤ spine s outer
   pub fewer : length (walk s inner) ≤ length (walk s outer)

@@ -2,19 +2,14 @@
 use Rattle.std.specs.Prelude.{◌≡◌, ◌≤◌, ◌+◌, ℕ, List, [], ◌∷◌, map, length, Option, Some, None, IsSome}
 use Rattle.node_arena.specs.Arenas.{ArenaState, node_at}
 use Rattle.node_arena.specs.Insertions.{Misses}
-use Rattle.node_arena.specs.Trees.{Trees, done, absent, node, roots, Stands, Avoids, IsReachedOnce}
+use Rattle.node_arena.specs.Trees.{Trees, roots, Stands, Avoids, IsReachedOnce}
+use Rattle.chunk_tree.specs.Balancing.{node_count}
 
 -- the links that aren't absent
 abbrev pub present : List (Option ℕ) → List ℕ
 present [] = []
 present (None ∷ links) = present links
 present (Some i ∷ links) = i ∷ present links
-
--- how many nodes there are
-abbrev pub count : Trees → ℕ
-count done = 0
-count (absent rest) = count rest
-count (node i k run ls rest) = 1 + (count ls + count rest)
 
 -- each of the numbers has a node, and none comes twice
 abbrev pub AreNodes : ArenaState → List ℕ → Type 0
@@ -31,16 +26,17 @@ pub record HangsAt (a : ArenaState) (link : Option ℕ) (most : ℕ) (t : Trees)
   pub root : roots t ≡ link ∷ []
   pub stands : Stands a t
   pub once : IsReachedOnce t
-  pub few : count t ≤ most
+  pub few : node_count t ≤ most
 
 -- these are the numbers of the nodes of the trees, each once
 pub record AreNumbersOf (a : ArenaState) (t : Trees) (ids : List ℕ) : Type 0 where
   pub nodes : AreNodes a ids
   pub all : (i : ℕ) → Misses i ids → Avoids i t
   pub only : (i : ℕ) → Avoids i t → Misses i ids
+  pub counted : length ids ≡ node_count t
 
 -- the links of some nodes were looked at, and at the numbers that come next hang the nodes that are left
-pub record Lists (a : ArenaState) (t : Trees) (most : ℕ) (seen next : List ℕ) : Type 0 where
+pub record Lists (a : ArenaState) (t : Trees) (seen next : List ℕ) : Type 0 where
   pub row : Trees
   pub roots_are : roots row ≡ map Some next
   pub stands : Stands a row
@@ -49,4 +45,4 @@ pub record Lists (a : ArenaState) (t : Trees) (most : ℕ) (seen next : List ℕ
   pub apart : AllAvoid row seen
   pub all : (i : ℕ) → Misses i seen → Avoids i row → Avoids i t
   pub only : (i : ℕ) → Avoids i t → Misses i seen × Avoids i row
-  pub few : length seen + count row ≤ most
+  pub counted : length seen + node_count row ≡ node_count t

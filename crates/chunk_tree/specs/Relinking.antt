@@ -61,15 +61,15 @@ cells t = joined_rows (rows t)
 
 -- each node has two links, and at most so many nodes lie below one another
 abbrev pub IsNarrow : ℕ → Trees → Type 0
-IsNarrow room done = Unit {0}
-IsNarrow room (absent rest) = IsNarrow room rest
-IsNarrow room (node i k run ls rest) = (1 ≤ room) × (length (roots ls) ≡ 2) × IsNarrow (room - 1) ls × IsNarrow room rest
+IsNarrow levels done = Unit {0}
+IsNarrow levels (absent rest) = IsNarrow levels rest
+IsNarrow levels (node i k run ls rest) = (1 ≤ levels) × (length (roots ls) ≡ 2) × IsNarrow (levels - 1) ls × IsNarrow levels rest
 
 -- the tree at a link
-pub record IsAt (a : ArenaState) (link : Option ℕ) (room : ℕ) (t : Trees) : Type 0 where
+pub record IsAt (a : ArenaState) (link : Option ℕ) (levels : ℕ) (t : Trees) : Type 0 where
   pub root : roots t ≡ link ∷ []
   pub stands : Stands a t
-  pub narrow : IsNarrow room t
+  pub narrow : IsNarrow levels t
 
 -- ---- linked anew
 

@@ -9,9 +9,8 @@ use Rattle.node_arena.specs.Arenas.{ArenaState}
 use Rattle.node_arena.specs.Insertions.{Lacks}
 use Rattle.node_arena.specs.Kinds.{shape_at}
 use Rattle.node_arena.specs.Rules.{AreSound, Serves}
-use Rattle.node_arena.specs.Structures.{Tree, walk_of}
+use Rattle.node_arena.specs.Structures.{Tree, walk_of, IsStructure}
 use Rattle.node_arena.specs.Trees.{Trees, roots, Stands}
-use Rattle.chunk_tree.specs.Balancing.{Holds}
 
 -- the one kind has two links to itself
 pub record IsChunks (s : List NodeKind) : Type 0 where
@@ -22,17 +21,17 @@ pub record IsChunks (s : List NodeKind) : Type 0 where
 -- a structure of kind 0 that lacks each coordinate that is marked as free, in an arena with nodes for so many more insertions
 pub record IsGrown (s : List NodeKind) (a : ArenaState) (st : Structure) (free : List Bool) (more : ℕ) : Type 0 where
   pub tree : Tree
-  pub holds : Holds s 0 a st tree
+  pub holds : IsStructure s 0 a st tree
   pub lacks : (n : ℕ) → slice_index_or free n false ≡ true → Lacks n (walk_of s tree)
   pub serves : Serves s a
   pub spare : more ≤ a.nodes.spare
   pub few : st.len + more < 4095
 
 -- the spine that is kept after an insertion: the depth that it told, where that is greater, and one more where it told none
-abbrev pub raised : ℕ → Step → ℕ
-raised n (Done None) = n + 1
-raised n (Done (Some d)) = max n d
-raised n (Pass i side xs above) = n + 1
+abbrev pub spine_after : ℕ → Step → ℕ
+spine_after n (Done None) = n + 1
+spine_after n (Done (Some d)) = max n d
+spine_after n (Pass i side xs above) = n + 1
 
 -- a node with this number stands, with all that is reached from it
 pub record IsRooted (a : ArenaState) (i : ℕ) : Type 0 where

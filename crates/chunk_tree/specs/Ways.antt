@@ -25,8 +25,8 @@ place_of Pre = 0
 place_of Post = 1
 
 -- the link of a node at a place
-abbrev pub link_of : NodeState → ℕ → Option ℕ
-link_of n place = slice_index_or n.links place None
+abbrev pub link_in : NodeState → ℕ → Option ℕ
+link_in n place = slice_index_or n.links place None
 
 -- the number of the kind at a side; 0 where there aren't two links
 abbrev pub kind_on : Shape → Side → ℕ
@@ -53,12 +53,12 @@ HasTwoLinks shape = has_two_links shape ≡ true
 -- It goes to a side that it lies on where something is there, or where the run is full.
 abbrev pub Takes : ℕ → ℕ → NodeState → Option Side → Type 0
 Takes hi at n None =
-    ((first_of n.run ≤ at) ⊎ ((length n.run < hi) × (link_of n 0 ≡ None)))
-    × ((at ≤ last_of n.run) ⊎ ((length n.run < hi) × (link_of n 1 ≡ None)))
-Takes hi at n (Some Pre) = (at < first_of n.run) × ((hi ≤ length n.run) ⊎ IsSome (link_of n 0))
-Takes hi at n (Some Post) = (last_of n.run < at) × ((hi ≤ length n.run) ⊎ IsSome (link_of n 1))
+    ((first_of n.run ≤ at) ⊎ ((length n.run < hi) × (link_in n 0 ≡ None)))
+    × ((at ≤ last_of n.run) ⊎ ((length n.run < hi) × (link_in n 1 ≡ None)))
+Takes hi at n (Some Pre) = (at < first_of n.run) × ((hi ≤ length n.run) ⊎ IsSome (link_in n 0))
+Takes hi at n (Some Post) = (last_of n.run < at) × ((hi ≤ length n.run) ⊎ IsSome (link_in n 1))
 
 -- the node with two links to which the way leads, if there is one
 abbrev pub next_on : List NodeKind → NodeState → Option Side → Option ℕ
 next_on s n None = None
-next_on s n (Some side) = if has_two_links (shape_at s (kind_on (shape_at s n.kind) side)) then link_of n (place_of side) else None
+next_on s n (Some side) = if has_two_links (shape_at s (kind_on (shape_at s n.kind) side)) then link_in n (place_of side) else None

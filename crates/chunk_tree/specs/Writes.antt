@@ -12,7 +12,7 @@ use Rattle.node_arena.specs.Arenas.{ArenaState, NodeState, node_at, ChangesNode}
 use Rattle.node_arena.specs.Insertions.{put_in}
 use Rattle.node_arena.specs.Kinds.{kind_at, shape_at}
 use Rattle.node_arena.specs.Passing.{wedge_depth}
-use Rattle.chunk_tree.specs.Ways.{link_of, kind_on, has_two_links}
+use Rattle.chunk_tree.specs.Ways.{link_in, kind_on, has_two_links}
 
 -- ---- before and behind a write
 
@@ -23,11 +23,12 @@ pub record HasKindsRun (s : List NodeKind) (a : ArenaState) (n : NodeState) : Ty
   pub few : (kind_at s n.kind).hi ≤ 16
   pub serves : (kind_at s n.kind).hi ≤ a.nodes.most
 
--- so many nodes were made without memory, and the runs and the size of nodes are as before
+-- so many nodes were made without memory, and the runs, the memory and the size of nodes are as before
 pub record Spends (a b : ArenaState) (n : ℕ) : Type 0 where
   pub spare : b.nodes.spare + n ≡ a.nodes.spare
   pub runs : b.runs ≡ a.runs
   pub most : b.nodes.most ≡ a.nodes.most
+  pub places : b.nodes.places ≡ a.nodes.places
 
 -- ---- into the run
 
@@ -58,35 +59,35 @@ pub record Wedges (s : List NodeKind) (x : Elem) (a b : ArenaState) (i : ℕ) (n
   pub kind_is : kind ≡ kind_on (shape_at s n.kind) Post
   pub parts : IsParted s x n lower upper
   pub free : node_at a j ≡ None
-  pub makes : ChangesNode a between j (Some (record { kind = kind; run = upper; links = links_before (shape_at s kind) (link_of n 1) }))
-  pub puts : ChangesNode between b i (Some (record { kind = n.kind; run = lower; links = link_of n 0 ∷ Some j ∷ [] }))
+  pub makes : ChangesNode a between j (Some (record { kind = kind; run = upper; links = links_before (shape_at s kind) (link_in n 1) }))
+  pub puts : ChangesNode between b i (Some (record { kind = n.kind; run = lower; links = link_in n 0 ∷ Some j ∷ [] }))
 
 -- the run is parted, and the upper part is taken out
 pub record Cuts (s : List NodeKind) (x : Elem) (a b : ArenaState) (i : ℕ) (n : NodeState) (upper : List Elem) : Type 0 where
   pub lower : List Elem
   pub parts : IsParted s x n lower upper
-  pub puts : ChangesNode a b i (Some (record { kind = n.kind; run = lower; links = link_of n 0 ∷ link_of n 1 ∷ [] }))
+  pub puts : ChangesNode a b i (Some (record { kind = n.kind; run = lower; links = link_in n 0 ∷ link_in n 1 ∷ [] }))
 
 -- so many nodes were made, and so many written, made ones too
 abbrev pub Costs : ArenaState → ArenaState → ℕ → ℕ → ℕ → ℕ → Type 0
 Costs a b made written before now = Spends a b made × (now ≡ before + written)
 
 -- x is in the run, or what it pushes out is in a new node, or is passed on; so many nodes with two links are above
-abbrev pub Settles : List NodeKind → Elem → ArenaState → ArenaState → ℕ → NodeState → ℕ → Step → ℕ → ℕ → Type 0
-Settles s x a b i n above (Done deep) before now =
+abbrev pub GoesInside : List NodeKind → Elem → ArenaState → ArenaState → ℕ → NodeState → ℕ → Step → ℕ → ℕ → Type 0
+GoesInside s x a b i n above (Done deep) before now =
     (Fits s x a b i n × Costs a b 0 1 before now × (deep ≡ Some 0))
     ⊎ ((shape_at s (kind_on (shape_at s n.kind) Post) ≢ shapes.Woven) × ((j : ℕ) × Wedges s x a b i n j) × Costs a b 1 2 before now
-    × (deep ≡ wedge_depth (shape_at s (kind_on (shape_at s n.kind) Post)) (is_some (link_of n 1)) (above + 1)))
-Settles s x a b i n above (Pass m side xs over) before now =
+    × (deep ≡ wedge_depth (shape_at s (kind_on (shape_at s n.kind) Post)) (is_some (link_in n 1)) (above + 1)))
+GoesInside s x a b i n above (Pass m side xs over) before now =
     (m ≡ i) × (side ≡ Post) × (shape_at s (kind_on (shape_at s n.kind) Post) ≡ shapes.Woven) × Cuts s x a b i n xs.items × Costs a b 0 1 before now
-    × (over ≡ Some (above + 1))
+    × (over ≡ above + 1)
 
 -- ---- beside the run
 
 -- the links of a node with two links, with this one at a side
 abbrev pub with_link_on : NodeState → Side → ℕ → List (Option ℕ)
-with_link_on n Pre j = Some j ∷ link_of n 1 ∷ []
-with_link_on n Post j = link_of n 0 ∷ Some j ∷ []
+with_link_on n Pre j = Some j ∷ link_in n 1 ∷ []
+with_link_on n Post j = link_in n 0 ∷ Some j ∷ []
 
 -- x alone is in a new node with two links, at this side of the node
 pub record Hangs (s : List NodeKind) (x : Elem) (a b : ArenaState) (i : ℕ) (n : NodeState) (side : Side) (j : ℕ) : Type 0 where
@@ -104,4 +105,4 @@ GoesBeside s x a b i n side above (Done deep) before now =
     × (deep ≡ Some (above + 2))
 GoesBeside s x a b i n side above (Pass m to xs over) before now =
     (m ≡ i) × (to ≡ side) × (has_two_links (shape_at s (kind_on (shape_at s n.kind) side)) ≡ false) × (b ≡ a) × (xs.items ≡ x ∷ []) × (now ≡ before)
-    × (over ≡ Some (above + 1))
+    × (over ≡ above + 1)

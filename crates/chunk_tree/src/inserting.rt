@@ -5,11 +5,11 @@ ghost use Rattle.node_arena.specs.declared.elements.TheConstants.{MOST_SPINE};
 ghost use Rattle.node_arena.specs.Arenas.{node_at};
 ghost use Rattle.node_arena.specs.Insertions.{DifferInFew};
 ghost use Rattle.node_arena.specs.Kinds.{kind_at, shape_at};
-ghost use Rattle.node_arena.specs.Passing.{CanPutIn, Leaves, IsTold};
+ghost use Rattle.node_arena.specs.Passing.{CanPutIn, Leaves};
 ghost use Rattle.node_arena.specs.Rules.{AreSound, Serves};
 ghost use Rattle.node_arena.specs.Trees.{Trees};
 ghost use Rattle.chunk_tree.specs.Ways.{HasTwoLinks};
-ghost use Rattle.chunk_tree.specs.Writes.{HasKindsRun, Spends, Hangs, Settles, GoesBeside};
+ghost use Rattle.chunk_tree.specs.Writes.{HasKindsRun, Spends, Hangs, GoesInside, GoesBeside};
 
 use crate::kinds::{has_two_links, kind_on};
 use crate::parting::{cut, wedge};
@@ -30,7 +30,7 @@ fn settle<L: Ledger>(
     requires there { IsSomeAnd (node_at arena.old here) (HasKindsRun kinds.now arena.old) }
     requires spare { 0 < arena.old.nodes.spare }
     requires few { above < MOST_SPINE }
-    ensures settles { IfSome (node_at arena.old here) (λ n. Settles kinds.now elem arena.old arena.new here n above result steps.old steps.new) }
+    ensures settles { IfSome (node_at arena.old here) (λ n. GoesInside kinds.now elem arena.old arena.new here n above result steps.old steps.new) }
 {
     let hi = kind_of(kinds, arena.kind(here)).hi as usize;
     if arena.len(here) < hi {
@@ -44,7 +44,7 @@ fn settle<L: Ledger>(
             node: here,
             side: Side::Post,
             elems,
-            above: Some(above + 1),
+            above: above + 1,
         };
     }
     let behind = arena.link(here, 1).is_some();
@@ -102,11 +102,14 @@ fn put_beside<L: Ledger>(
         node: here,
         side,
         elems: copied(&[elem]),
-        above: Some(above + 1),
+        above: above + 1,
     }
 }
 
 /// Puts the element into the tree whose root is the node. At most two nodes are written, and at most one is made; the root stays the root.
+/// An element below the first one of a node's run, or above the last one, goes to that side where something hangs there, and also where the run is
+/// full; where nothing hangs there then, it is alone in a new node. Else it goes into the run. If that is full, it keeps the lower half and the middle
+/// one, and the upper part goes behind it.
 /// Where the element's way leaves the nodes with two links, the answer is what has still to go into the structure there: the element alone, and
 /// nothing was written; or the upper part of a run, which was taken out. The time is that of the way, at most `MOST_SPINE` nodes.
 pub fn insert<L: Ledger>(
@@ -122,12 +125,12 @@ pub fn insert<L: Ledger>(
     requires two_links { IsSomeAnd (node_at arena.old node) (λ n. HasTwoLinks (shape_at kinds.now n.kind)) }
     requires spare { 0 < arena.old.nodes.spare }
     ensures left { (t : Trees) → CanPutIn kinds.now arena.old elem node t → Leaves kinds.now arena.old arena.new elem t result steps.old steps.new }
-    ensures told { IsTold arena.old arena.new result }
     ensures few { DifferInFew 2 arena.old arena.new }
     ensures spare { arena.old.nodes.spare ≤ arena.new.nodes.spare + 1 }
     ensures steps { steps.new ≤ steps.old + 2 }
     ensures runs { arena.new.runs ≡ arena.old.runs }
     ensures most { arena.new.nodes.most ≡ arena.old.nodes.most }
+    ensures places { arena.new.nodes.places ≡ arena.old.nodes.places }
 {
     let (here, way, above) = find(kinds, arena, node, &elem);
     match way {

@@ -1,7 +1,7 @@
 //! Nodes linked into a tree with few levels.
 ghost use Rattle.std.specs.Prelude.{◌≡◌, ◌≤◌, ◌+◌, List, length};
+ghost use Rattle.chunk_tree.specs.Balancing.{IsRelinked};
 ghost use Rattle.chunk_tree.specs.Relinking.{Cell, IsLaid, IsLinked};
-ghost use Rattle.chunk_tree.specs.Writes.{Spends};
 
 use dt_model::Steps;
 use node_arena::{Arena, NodeId};
@@ -17,7 +17,7 @@ pub(crate) fn link_up<L: Ledger>(
     requires laid { (cs : List Cell) × IsLaid arena.old ids.now cs }
     requires links { 1 ≤ arena.old.nodes.most }
     ensures linked { (cs : List Cell) → IsLaid arena.old ids.now cs → IsLinked arena.old arena.new cs result }
-    ensures spends { Spends arena.old arena.new 0 }
+    ensures rest { IsRelinked arena.old arena.new }
     ensures steps { steps.new ≡ steps.old + length ids.now }
 {
     if ids.is_empty() {

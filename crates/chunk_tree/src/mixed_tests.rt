@@ -1,10 +1,9 @@
 //! Structures of several kinds, rebalanced: shapes that were worked by hand, and what is left when out of memory.
 ghost use Rattle.std.specs.Prelude.{◌≡◌, ◌<◌, ◌≤◌, ℕ, List, Some, IsSome, IfSome, true, false};
 ghost use Rattle.node_arena.specs.Arenas.{node_at};
-ghost use Rattle.node_arena.specs.Structures.{Tree};
+ghost use Rattle.node_arena.specs.Structures.{Tree, IsStructure};
 ghost use Rattle.node_arena.specs.declared.elements.TheConstants.{MOST_SPINE};
 ghost use Rattle.node_arena.specs.declared.kinds.NodeKind.{NodeKind};
-ghost use Rattle.chunk_tree.specs.Balancing.{Holds};
 ghost use Rattle.chunk_tree.specs.Relinking.{root_at};
 ghost use Rattle.chunk_tree.specs.RowTrials.{AreForRows, IsRow, woven_kinds};
 ghost use Rattle.chunk_tree.specs.Trials.{IsRooted};
@@ -128,7 +127,7 @@ fn row<L: Ledger>(arena: &mut Arena, chained: bool, count: u8, steps: &mut Steps
     requires low { count ≤ MOST_SPINE }
     requires spare { count ≤ arena.old.nodes.spare }
     requires most { 2 ≤ arena.old.nodes.most }
-    ensures holds { (s : List NodeKind) → AreForRows s chained → (t : Tree) × Holds s 0 arena.new result t }
+    ensures holds { (s : List NodeKind) → AreForRows s chained → (t : Tree) × IsStructure s 0 arena.new result t }
     ensures most { arena.new.nodes.most ≡ arena.old.nodes.most }
 {
     let mut behind = None;
@@ -145,14 +144,23 @@ fn row<L: Ledger>(arena: &mut Arena, chained: bool, count: u8, steps: &mut Steps
     }
 }
 
-/// Rebalances a row of nodes, and writes what is there then: the new structure, with true; or the old one when out of memory.
+/// What was tried: whether it was done, how many nodes were spare before it and behind it, and the structure that is there then.
+#[derive(Debug, Drop)]
+struct Trial {
+    done: bool,
+    spare_before: u32,
+    spare_behind: u32,
+    tree: Vec<u32>,
+}
+
+/// Rebalances a row of nodes, and writes what is there then: the new structure; or the old one when out of memory.
 fn tried<L: Ledger>(
     alloc: Global,
     blank: Blank,
     kinds: &[NodeKind],
     chained: bool,
     count: u8,
-) -> Result<(bool, Vec<u32>), NoMemory>
+) -> Result<Trial, NoMemory>
     requires name { blank.name ≡ L.name }
     requires parts { blank.parts ≡ L.parts }
     requires one { blank.parts ≡ 1 }
@@ -164,19 +172,25 @@ fn tried<L: Ledger>(
     let mut arena = Arena::new(alloc, 2);
     arena.reserve(u32::from(count))?;
     let old = row(&mut arena, chained, count, &mut steps);
+    let spare_before = arena.spare_nodes();
     match rebalance(kinds, 0, old, &mut arena, alloc, &mut steps) {
-        Ok(new) => Ok((true, written(&arena, &new, alloc)?)),
-        Err(NoMemory) => Ok((false, written(&arena, &old, alloc)?)),
+        Ok(new) => Ok(Trial {
+            done: true,
+            spare_before,
+            spare_behind: arena.spare_nodes(),
+            tree: written(&arena, &new, alloc)?,
+        }),
+        Err(NoMemory) => Ok(Trial {
+            done: false,
+            spare_before,
+            spare_behind: arena.spare_nodes(),
+            tree: written(&arena, &old, alloc)?,
+        }),
     }
 }
 
 /// The same with a counter of its own.
-fn tried_row(
-    alloc: Global,
-    kinds: &[NodeKind],
-    chained: bool,
-    count: u8,
-) -> Result<(bool, Vec<u32>), NoMemory>
+fn tried_row(alloc: Global, kinds: &[NodeKind], chained: bool, count: u8) -> Result<Trial, NoMemory>
     requires kinds { AreForRows kinds.now chained }
     requires some { 1 ≤ count }
     requires low { count ≤ MOST_SPINE }
@@ -210,7 +224,7 @@ fn three_nodes<L: Ledger>(arena: &mut Arena, spine: u8, steps: &mut Steps<L>) ->
     requires most { 2 ≤ arena.old.nodes.most }
     requires some { 1 ≤ spine }
     requires low { spine ≤ MOST_SPINE }
-    ensures holds { (t : Tree) × Holds woven_kinds 0 arena.new result t }
+    ensures holds { (t : Tree) × IsStructure woven_kinds 0 arena.new result t }
     ensures most { arena.new.nodes.most ≡ arena.old.nodes.most }
 {
     let before = arena.make(1, &[elem(0)], &[], steps);
@@ -277,27 +291,29 @@ fn nothing_of(alloc: Global, spine: u8) -> Result<Structure, NoMemory>
 
 #[test]
 fn a_tree_below_a_root_of_another_kind_becomes_shallow(rt: HostRuntime) -> Result<(), Fail> {
-    let (done, five) = tried_row(rt.alloc(), &pairs(), false, 5)?;
+    let five = tried_row(rt.alloc(), &pairs(), false, 5)?;
     let wanted = [OPEN, OPEN, 0, 1, CLOSE, 2, 3, OPEN, 4, CLOSE, CLOSE];
-    assert!(rt; done);
-    assert!(rt; five.as_slice() == wanted.as_slice());
-    let (done, most) = tried_row(rt.alloc(), &pairs(), false, 96)?;
-    assert!(rt; done);
-    assert!(rt; depth_of(Some(most)) <= 7);
+    assert!(rt; five.done);
+    assert!(rt; five.tree.as_slice() == wanted.as_slice());
+    assert!(rt; five.spare_behind.saturating_sub(2) >= five.spare_before);
+    let most = tried_row(rt.alloc(), &pairs(), false, 96)?;
+    assert!(rt; most.done);
+    assert!(rt; depth_of(Some(most.tree)) <= 7);
     Ok(())
 }
 
 #[test]
 fn a_tree_behind_a_chain_becomes_shallow(rt: HostRuntime) -> Result<(), Fail> {
-    let (done, five) = tried_row(rt.alloc(), &chain(), true, 5)?;
+    let five = tried_row(rt.alloc(), &chain(), true, 5)?;
     let wanted = [
         OPEN, 0, 1, OPEN, OPEN, 2, CLOSE, 3, OPEN, 4, CLOSE, CLOSE, CLOSE,
     ];
-    assert!(rt; done);
-    assert!(rt; five.as_slice() == wanted.as_slice());
-    let (done, most) = tried_row(rt.alloc(), &chain(), true, 96)?;
-    assert!(rt; done);
-    assert!(rt; depth_of(Some(most)) <= 8);
+    assert!(rt; five.done);
+    assert!(rt; five.tree.as_slice() == wanted.as_slice());
+    assert!(rt; five.spare_behind > five.spare_before);
+    let most = tried_row(rt.alloc(), &chain(), true, 96)?;
+    assert!(rt; most.done);
+    assert!(rt; depth_of(Some(most.tree)) <= 8);
     Ok(())
 }
 
@@ -329,17 +345,28 @@ fn an_empty_structure_stays_empty(rt: HostRuntime) -> Result<(), Fail> {
     Ok(())
 }
 
+/// Whether the new structure is there, or the old one with as many spare nodes.
+fn is_either(tried: &Trial, old: &[u32], new: &[u32]) -> bool {
+    if tried.done {
+        tried.tree.as_slice() == new
+    } else {
+        tried.tree.as_slice() == old && tried.spare_behind == tried.spare_before
+    }
+}
+
 #[test]
 fn what_was_there_is_there_when_out_of_memory(rt: HostRuntime) -> Result<(), Fail> {
-    if let Ok((done, three)) = tried_row(rt.alloc(), &chain(), true, 3) {
+    if let Ok(three) = tried_row(rt.alloc(), &chain(), true, 3) {
         let deep = [OPEN, 0, OPEN, 1, OPEN, 2, CLOSE, CLOSE, CLOSE];
         let even = [OPEN, 0, 1, OPEN, 2, CLOSE, CLOSE];
-        let as_wanted = if done {
-            three.as_slice() == even.as_slice()
-        } else {
-            three.as_slice() == deep.as_slice()
-        };
-        assert!(rt; as_wanted);
+        assert!(rt; is_either(&three, &deep, &even));
+    }
+    if let Ok(five) = tried_row(rt.alloc(), &pairs(), false, 5) {
+        let deep = [
+            OPEN, 0, OPEN, 1, OPEN, 2, OPEN, 3, OPEN, 4, CLOSE, CLOSE, CLOSE, CLOSE, CLOSE,
+        ];
+        let even = [OPEN, OPEN, 0, 1, CLOSE, 2, 3, OPEN, 4, CLOSE, CLOSE];
+        assert!(rt; is_either(&five, &deep, &even));
     }
     Ok(())
 }

@@ -1,5 +1,5 @@
 //! The numbers of a structure's nodes, and nodes freed by their numbers.
-ghost use Rattle.std.specs.Prelude.{◌≡◌, ◌++◌, ◌∷◌, [], ℕ, None, IfOk, OnOk};
+ghost use Rattle.std.specs.Prelude.{◌≡◌, ◌<◌, ◌≤◌, ◌+◌, ◌++◌, ◌∷◌, [], ℕ, None, IfOk, OnOk, length};
 ghost use Rattle.node_arena.specs.Arenas.{node_at};
 ghost use Rattle.node_arena.specs.Insertions.{Misses};
 ghost use Rattle.node_arena.specs.Trees.{Trees};
@@ -50,12 +50,14 @@ pub(crate) fn numbers(
     Ok(ids)
 }
 
-/// Frees the nodes with these numbers.
+/// Frees the nodes with these numbers. As many more can be made without memory, if there is memory for no more nodes than numbers.
 pub(crate) fn free_all(arena: &mut Arena, ids: &[NodeId])
     requires nodes { AreNodes arena.old ids.now }
     ensures gone { (i : ℕ) → (Misses i ids.now → ⊥) → node_at arena.new i ≡ None }
     ensures others { (i : ℕ) → Misses i ids.now → node_at arena.new i ≡ node_at arena.old i }
-    ensures spare { arena.new.nodes.spare ≡ arena.old.nodes.spare }
+    ensures spare { arena.old.nodes.places < 4294967296 → arena.new.nodes.spare ≡ arena.old.nodes.spare + length ids.now }
+    ensures kept { arena.old.nodes.spare ≤ arena.new.nodes.spare }
+    ensures places { arena.new.nodes.places ≡ arena.old.nodes.places }
     ensures most { arena.new.nodes.most ≡ arena.old.nodes.most }
     ensures runs { arena.new.runs ≡ arena.old.runs }
 {

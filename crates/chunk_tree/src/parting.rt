@@ -7,7 +7,7 @@ ghost use Rattle.chunk_tree.specs.Writes.{HasKindsRun, Spends, IsParted, links_b
 use crate::kinds::kind_on;
 use arrayvec::ArrayVec;
 use dt_model::Steps;
-use node_arena::{Arena, Elem, NodeId, NodeKind, Shape, Side, copied, kind_of};
+use node_arena::{Arena, Elem, MOST_PASSED, NodeId, NodeKind, Shape, Side, copied, kind_of};
 use std::sync::ledger::Ledger;
 
 /// The links of a new node of a kind, before an old structure.
@@ -35,7 +35,7 @@ fn parted(
     arena: &Arena,
     here: NodeId,
     elem: Elem,
-) -> (ArrayVec<Elem, 16>, ArrayVec<Elem, 9>)
+) -> (ArrayVec<Elem, 16>, ArrayVec<Elem, MOST_PASSED>)
     requires there { IsSomeAnd (node_at arena.now here) (HasKindsRun kinds.now arena.now) }
     requires full { IfSome (node_at arena.now here) (λ n. (kind_at kinds.now n.kind).hi ≤ length n.run) }
     ensures parts { IfSome (node_at arena.now here) (λ n. IsParted kinds.now elem n result.0.items result.1.items) }
@@ -80,7 +80,7 @@ pub(crate) fn cut<L: Ledger>(
     here: NodeId,
     elem: Elem,
     steps: &mut Steps<L>,
-) -> ArrayVec<Elem, 9>
+) -> ArrayVec<Elem, MOST_PASSED>
     requires there { IsSomeAnd (node_at arena.old here) (HasKindsRun kinds.now arena.old) }
     requires full { IfSome (node_at arena.old here) (λ n. (kind_at kinds.now n.kind).hi ≤ length n.run) }
     ensures cuts { IfSome (node_at arena.old here) (λ n. Cuts kinds.now elem arena.old arena.new here n result.items) }

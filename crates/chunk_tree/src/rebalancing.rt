@@ -1,13 +1,12 @@
 //! A structure made shallow.
-ghost use Rattle.std.specs.Prelude.{◌≡◌, ◌≢◌, ◌≤◌, ◌+◌, ◌<◌, ◌↔◌, ℕ, Ok, IfOk, OnErr, IsTrue, length, true, false};
-ghost use Rattle.node_arena.specs.declared.kinds.Shape.TheVariants.{Flat, Ends};
-ghost use Rattle.node_arena.specs.Arenas.{run_at};
+ghost use Rattle.std.specs.Prelude.{◌≡◌, ◌≢◌, ◌≤◌, ◌+◌, ◌<◌, ◌↔◌, ℕ, Ok, IfOk, OnOk, OnErr, IsOk, IsTrue, length, true, false};
+ghost use Rattle.node_arena.specs.declared.kinds.Shape.TheVariants.{Flat, Ends, Woven};
 ghost use Rattle.node_arena.specs.Conforming.{spine_by};
 ghost use Rattle.node_arena.specs.Kinds.{shape_at};
 ghost use Rattle.node_arena.specs.Rules.{AreSound, Serves};
-ghost use Rattle.node_arena.specs.Structures.{Tree};
-ghost use Rattle.bulk_build.specs.Building.{IsAsBefore};
-ghost use Rattle.chunk_tree.specs.Balancing.{Holds, IsShallow, IsRebalanced, IsRelinked};
+ghost use Rattle.node_arena.specs.Structures.{Tree, IsStructure};
+ghost use Rattle.bulk_build.specs.Building.{IsAsBefore, CanBeNumbered};
+ghost use Rattle.chunk_tree.specs.Balancing.{IsShallow, Rebalances, IsRelinked, FreesOld};
 ghost use Rattle.chunk_tree.specs.Relinking.{root_at, top_at};
 
 use crate::collecting::elements;
@@ -53,6 +52,7 @@ fn leads_home(kinds: &[NodeKind], kind: u32) -> bool
 /// Whether a structure of a kind may have nodes with two links: not where it is flat or woven.
 fn may_be_deep(kinds: &[NodeKind], kind: u32) -> bool
     ensures linked { result ≡ true → shape_at kinds.now kind ≢ Flat }
+    ensures leveled { result ≡ true → shape_at kinds.now kind ≢ Woven }
     ensures level { result ≡ false → (n : ℕ) → spine_by (shape_at kinds.now kind) n ≡ 0 }
 {
     match kind_of(kinds, kind).shape {
@@ -83,11 +83,10 @@ fn relink<L: Ledger>(
     requires sound { AreSound kinds.now }
     requires serves { Serves kinds.now arena.old }
     requires one_kind { shape_at kinds.now kind ≡ Ends kind kind }
-    requires holds { (t : Tree) × Holds kinds.now kind arena.old top t }
-    ensures ok { IfOk result (λ new. (t : Tree) → Holds kinds.now kind arena.old top t → IsRebalanced kinds.now kind arena.old arena.new top t new) }
+    requires holds { (t : Tree) × IsStructure kinds.now kind arena.old top t }
+    ensures ok { IfOk result (Rebalances kinds.now kind arena.old arena.new top) }
     ensures err { OnErr result (arena.new ≡ arena.old) }
     ensures rest { IsRelinked arena.old arena.new }
-    ensures most { arena.new.nodes.most ≡ arena.old.nodes.most }
     ensures steps { steps.new ≤ steps.old + top.len }
 {
     let mut ids = Vec::new(alloc);
@@ -112,10 +111,13 @@ fn renew<L: Ledger>(
     requires sound { AreSound kinds.now }
     requires serves { Serves kinds.now arena.old }
     requires linked { shape_at kinds.now kind ≢ Flat }
-    requires holds { (t : Tree) × Holds kinds.now kind arena.old top.now t }
-    ensures ok { IfOk result (λ new. (t : Tree) → Holds kinds.now kind arena.old top.now t → IsRebalanced kinds.now kind arena.old arena.new top.now t new) }
+    requires holds { (t : Tree) × IsStructure kinds.now kind arena.old top.now t }
+    ensures ok { IfOk result (Rebalances kinds.now kind arena.old arena.new top.now) }
     ensures err { OnErr result (IsAsBefore arena.old arena.new) }
-    ensures runs { (i : ℕ) → run_at arena.new i ≡ run_at arena.old i }
+    ensures spent { OnOk result (arena.old.nodes.spare ≤ arena.new.nodes.spare + top.now.len) }
+    ensures freed { OnOk result (FreesOld kinds.now kind arena.old arena.new top.now) }
+    ensures kept { OnErr result (CanBeNumbered arena.new → arena.old.nodes.spare ≤ arena.new.nodes.spare) }
+    ensures runs { arena.new.runs ≡ arena.old.runs }
     ensures most { arena.new.nodes.most ≡ arena.old.nodes.most }
     ensures steps { steps.new ≤ steps.old + top.now.len }
 {
@@ -127,9 +129,10 @@ fn renew<L: Ledger>(
 }
 
 /// Makes a structure shallow: its elements stay, and its spine is at most the binary digits of their number. Where its nodes are all of one kind with
-/// two links, they are linked anew, and no node is made. Else, where the spine that is kept isn't low already, the structure is built anew, and its
-/// old nodes are freed: for a while there is memory for both, and for a list of the elements. At most a tick is counted for each element. When out of
-/// memory, all nodes and runs are as before. As many more nodes as before can be made without memory only where no node is made here.
+/// two links, they are linked anew, and no node is made. Any other stays as it is if the spine that is kept is low already. Else a flat or a woven one
+/// only keeps a spine of 0 from then on, and others are built anew, and their old nodes are freed: for a while there is memory for both, and for lists
+/// of the elements and of the old numbers. At most a tick is counted for each element. When out of memory, all nodes and runs are as before. Nodes
+/// that are freed are spare; at most one node for each element is taken.
 pub fn rebalance<L: Ledger>(
     kinds: &[NodeKind],
     kind: u32,
@@ -140,13 +143,18 @@ pub fn rebalance<L: Ledger>(
 ) -> Result<Structure, NoMemory>
     requires sound { AreSound kinds.now }
     requires serves { Serves kinds.now arena.old }
-    requires holds { (t : Tree) × Holds kinds.now kind arena.old top t }
-    ensures ok { IfOk result (λ new. (t : Tree) → Holds kinds.now kind arena.old top t → IsRebalanced kinds.now kind arena.old arena.new top t new) }
+    requires holds { (t : Tree) × IsStructure kinds.now kind arena.old top t }
+    ensures ok { IfOk result (Rebalances kinds.now kind arena.old arena.new top) }
     ensures err { OnErr result (IsAsBefore arena.old arena.new) }
     ensures relinked { shape_at kinds.now kind ≡ Ends kind kind → IsRelinked arena.old arena.new }
     ensures relinked_err { shape_at kinds.now kind ≡ Ends kind kind → OnErr result (arena.new ≡ arena.old) }
     ensures shallow { shape_at kinds.now kind ≢ Ends kind kind → IsShallow top → (arena.new ≡ arena.old) × (result ≡ Ok top) }
-    ensures runs { (i : ℕ) → run_at arena.new i ≡ run_at arena.old i }
+    ensures flat { shape_at kinds.now kind ≡ Flat → (arena.new ≡ arena.old) × IsOk result }
+    ensures woven { shape_at kinds.now kind ≡ Woven → (arena.new ≡ arena.old) × IsOk result }
+    ensures spent { OnOk result (arena.old.nodes.spare ≤ arena.new.nodes.spare + top.len) }
+    ensures freed { OnOk result (FreesOld kinds.now kind arena.old arena.new top) }
+    ensures kept { OnErr result (CanBeNumbered arena.new → arena.old.nodes.spare ≤ arena.new.nodes.spare) }
+    ensures runs { arena.new.runs ≡ arena.old.runs }
     ensures most { arena.new.nodes.most ≡ arena.old.nodes.most }
     ensures steps { steps.new ≤ steps.old + top.len }
 {

@@ -3,7 +3,7 @@ ghost use Rattle.std.specs.Prelude.{◌≡◌, ◌≢◌, ◌+◌, ◌-◌, ◌<
 ghost use Rattle.node_arena.specs.Arenas.{node_at};
 ghost use Rattle.node_arena.specs.declared.kinds.Shape.TheVariants as shapes;
 ghost use Rattle.chunk_tree.specs.Relinking.{root_at};
-ghost use Rattle.chunk_tree.specs.Trials.{IsChunks, IsGrown, IsRooted, mixed_kinds, raised};
+ghost use Rattle.chunk_tree.specs.Trials.{IsChunks, IsGrown, IsRooted, mixed_kinds, spine_after};
 
 use crate::checking::{CLOSE, MOST, OPEN, write_run, written};
 use crate::rebalancing::root_at;
@@ -65,9 +65,9 @@ fn first<L: Ledger>(
 }
 
 /// The spine that is kept after an insertion: the depth that it told, where that is greater, and one more where it told none.
-fn raised(spine: u8, step: &Step) -> u8
+fn spine_after(spine: u8, step: &Step) -> u8
     requires low { spine ≤ 95 }
-    ensures value { result ≡ raised spine step.now }
+    ensures value { result ≡ spine_after spine step.now }
 {
     match step {
         Step::Done { deep: Some(depth) } => spine.max(*depth),
@@ -100,7 +100,7 @@ fn next<L: Ledger>(
     Structure {
         top: Top::Node(root),
         len: top.len + 1,
-        spine: raised(top.spine, &step),
+        spine: spine_after(top.spine, &step),
     }
 }
 
@@ -172,7 +172,7 @@ fn ended<L: Ledger>(
 }
 
 /// Puts the coordinates in, in this order, and answers the structure and the tree that is written then. None where that, or one after each so
-/// many insertions, breaks a rule, or has another walk, or a spine of more than 96.
+/// many insertions, breaks a rule, or has another walk, or a spine of more than 96; or where other nodes are spare after a rebalance at the end.
 fn grown<L: Ledger>(
     alloc: Global,
     blank: Blank,
@@ -227,6 +227,7 @@ fn grown<L: Ledger>(
     if !is_kept {
         return Ok(None);
     }
+    let spare = arena.spare_nodes();
     top = ended(
         &kinds,
         &mut arena,
@@ -236,6 +237,9 @@ fn grown<L: Ledger>(
         alloc,
         &mut steps,
     )?;
+    if arena.spare_nodes() != spare {
+        return Ok(None);
+    }
     written(alloc, &arena, &top, hi, free.as_slice())
 }
 
@@ -302,7 +306,7 @@ fn passed<L: Ledger>(alloc: Global, blank: Blank, at: u32) -> Result<Vec<u32>, N
             above,
         } => {
             out.push(if side == Side::Pre { 1 } else { 2 })?;
-            out.push(above.map_or(0, u32::from))?;
+            out.push(u32::from(above))?;
             for elem in elems.as_slice() {
                 out.push(elem.at)?;
             }

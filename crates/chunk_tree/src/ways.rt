@@ -2,7 +2,7 @@
 ghost use Rattle.std.specs.Prelude.{◌≡◌, IsSome, IfSome, None};
 ghost use Rattle.node_arena.specs.Arenas.{node_at};
 ghost use Rattle.node_arena.specs.Kinds.{kind_at, shape_at};
-ghost use Rattle.chunk_tree.specs.Ways.{first_of, last_of, place_of, link_of, Takes, next_on};
+ghost use Rattle.chunk_tree.specs.Ways.{first_of, last_of, place_of, link_in, Takes, next_on};
 
 use crate::kinds::{has_two_links, kind_on};
 use node_arena::{Arena, NodeId, NodeKind, Side, kind_of};
@@ -43,7 +43,7 @@ pub(crate) fn way_of(kinds: &[NodeKind], arena: &Arena, here: NodeId, at: u32) -
 /// The link of a node at a side.
 pub(crate) fn link_on(arena: &Arena, here: NodeId, side: Side) -> Option<NodeId>
     requires there { IsSome (node_at arena.now here) }
-    ensures value { IfSome (node_at arena.now here) (λ n. result ≡ link_of n (place_of side)) }
+    ensures value { IfSome (node_at arena.now here) (λ n. result ≡ link_in n (place_of side)) }
 {
     match side {
         Side::Pre => arena.link(here, 0),

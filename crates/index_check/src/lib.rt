@@ -4,7 +4,7 @@
 //! none. A plan has the statement's kernels: its terms grouped by their variables, each group with the
 //! order of its loops and the accesses that have to be repacked for this order. `call_is_valid` answers
 //! whether a call may be made, with `cell_is_valid` and `query_is_valid` as its parts, and `is_small`
-//! whether a statement is within the limits. Only `check_stmt` takes memory.
+//! whether a statement is within the limits. `accesses_of` lists the accesses of an expression. Only `check_stmt` takes memory.
 //! Clauses see a `Plan` as a `PlanState`. Read `statement_fault` in dt_model's `specs/Refusals.antt` and
 //! `call_is_valid` in its `specs/Verdicts.antt` first, then `specs/Plans.antt` and `specs/LoopOrders.antt`.
 //! Terms, accesses and variables are numbered from 0 in bits and places, and from 1 in refusals. A
@@ -32,6 +32,7 @@ mod valid_calls;
 mod valid_tests;
 mod variables;
 
+pub use accesses::{Access, Accesses, accesses_of};
 pub use appearance::is_by_appearance;
 pub use limits::is_small;
 pub use plans::{Kernel, Plan};

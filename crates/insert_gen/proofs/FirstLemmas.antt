@@ -10,7 +10,7 @@ use Rattle.node_arena.specs.Kinds.{kind_at, shape_at}
 use Rattle.node_arena.specs.Rules.{AreSound, HasSoundLinks}
 use Rattle.node_arena.specs.Trees.{Trees, done, absent, node, roots, stored, Stands, Avoids, IsApart, IsReachedOnce}
 use Rattle.node_arena.specs.Walks.{parts, joined, walks}
-use Rattle.node_arena.proofs.ChangesLemmas.{node_differs, Stands-written, KeepsOutside-made}
+use Rattle.node_arena.proofs.ChangesLemmas.{node_differs, Stands-written, ChangesOnly-change}
 use Rattle.insert_gen.specs.Below.{IsLinked, no_links, own_depth, IsFirst}
 
 abbrev bare_links : Shape → Trees
@@ -124,8 +124,8 @@ first-made s k a b x i sound linked new ch =
           level = (level.0, level.1, tt);
           spine_low = omega (arith, own, low);
           walk_is = ap (λ w. w ++ []) (walk-bare s sh x);
-          keeps = KeepsOutside-made a b (absent done) i (Some (record { kind = k; run = x ∷ []; links = no_links sh })) ch new;
-          news = λ j h av. (node_differs a j i h new, avoids-bare j sh, tt);
+          only = ChangesOnly-change a b (absent done) (node i k (x ∷ []) ls done) i (Some (record { kind = k; run = x ∷ []; links = no_links sh })) ch
+              (λ w. w.0 refl) (λ j w. tt) (λ j h av. (node_differs a j i h new, avoids-bare j sh, tt));
         };
       };
       deep = omega (arith, own);

@@ -14,7 +14,7 @@ use Rattle.node_arena.specs.Passing.{AllLack}
 use Rattle.node_arena.specs.Rules.{AreSound, HasSoundLinks}
 use Rattle.node_arena.specs.Trees.{Trees, Avoids}
 use Rattle.node_arena.specs.Walks.{walk}
-use Rattle.node_arena.proofs.ChangesLemmas.{KeepsOutside-same, TakesFree-same, DifferInFew-one}
+use Rattle.node_arena.proofs.ChangesLemmas.{ChangesOnly-same, KeepsOutside-only, DifferInFew-one}
 use Rattle.node_arena.proofs.InsertionsLemmas.{Conform-PutsAt}
 use Rattle.node_arena.proofs.PutInLemmas.{length-put_in, AllLack-put_in, RisesFrom-rising}
 use Rattle.btree_nodes.specs.Links.{CanPutAt, HasSpareFor, PutsUnder}
@@ -63,8 +63,7 @@ module _ (s : List NodeKind) (k : ℕ) (a : ArenaState) (link : Option ℕ) (t :
       level = c.conforms.level;
       spine_low = omega arith;
       walk_is = refl;
-      keeps = KeepsOutside-same a t;
-      news = TakesFree-same a t;
+      only = ChangesOnly-same a t;
     };
   }
 
@@ -152,7 +151,7 @@ some-of P (Some n) h = refl
 module _ (s : List NodeKind) (k : ℕ) (a c : ArenaState) (i place : ℕ) (xs : List Elem) (t : Trees) (link : Option ℕ)
     (p : PutsBelow s k a c xs t link) (away : Avoids i t) (there : IsSomeAnd (node_at a i) (HasLinkAt place)) where
   pub same-node : node_at c i ≡ node_at a i
-  same-node = p.puts.keeps i (some-of (HasLinkAt place) (node_at a i) there) away
+  same-node = KeepsOutside-only a c t p.tree p.puts.only i (some-of (HasLinkAt place) (node_at a i) there) away
 
   -- the node is as before
   pub HasLinkAt-still : IsSomeAnd (node_at c i) (HasLinkAt place)

@@ -13,8 +13,7 @@ use Rattle.node_arena.specs.Arenas.{RunState, ArenaState, run_at, ChangesRun, pl
 use Rattle.node_arena.specs.Insertions.{put_in, Lacks, IsPutIn}
 use Rattle.node_arena.specs.Kinds.{shape_at}
 use Rattle.node_arena.specs.Structures.{Tree, empty, rooted, flat, walk_of, IsStanding, IsConforming}
-use Rattle.node_arena.specs.Trees.{done}
-use Rattle.node_arena.proofs.ChangesLemmas.{run_differs, KeepsOutside-run}
+use Rattle.node_arena.proofs.ChangesLemmas.{run_differs}
 use Rattle.node_arena.proofs.InsertionsLemmas.{IsPutIn-run}
 use Rattle.node_arena.proofs.PutInLemmas.{put_in-place, place_in-low}
 use Rattle.node_arena.proofs.StructuresLemmas.{tree_unique}
@@ -99,8 +98,10 @@ module _ (s : List NodeKind) (k : ℕ) (a b : ArenaState) (x : Elem) (st new : S
         };
         conforms = record { tree = (e, omega arith, tt); spine_kept = omega arith; spine_low = omega (arith, spine, conf.spine_low) };
         walk_is = refl;
-        keeps = record { nodes = KeepsOutside-run a b done nodes; runs = λ i h av. kept i (run_differs a i j h free) };
-        news = record { nodes = λ i h av. tt; runs = λ i h av. run_differs a i j h free };
+        only = record {
+          nodes = record { others = λ i v w. rw nodes refl; stays = λ i w. tt; news = λ i h v. tt };
+          runs = record { others = λ i v w. kept i w; stays = λ i w. tt; news = λ i h v. run_differs a i j h free };
+        };
       }
 
   -- the same of an empty structure, with what is known of its tree

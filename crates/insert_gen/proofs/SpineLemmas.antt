@@ -42,10 +42,10 @@ pub woven-none : (s : List NodeKind) (k : ℕ) → has_woven s ≡ false → sha
 woven-none s k none e = both (weaves (shape_at s k)) (ap weaves e) (weaves-none s k none)
 
 -- where a kind is woven, elements may be passed on to it
-pub passed-woven : (s : List NodeKind) (k : ℕ) → shape_at s k ≡ Woven → passed_to_woven s ≡ 9
+pub passed-woven : (s : List NodeKind) (k : ℕ) → shape_at s k ≡ Woven → passed_to_woven s ≡ 8
 passed-woven s k e = decide (has_woven s) refl
   where
-    decide : (b : Bool) → has_woven s ≡ b → passed_to_woven s ≡ 9
+    decide : (b : Bool) → has_woven s ≡ b → passed_to_woven s ≡ 8
     decide true h = rw h refl
     decide false h = absurd (woven-none s k h e)
 

@@ -18,7 +18,9 @@ use Rattle.node_arena.specs.Passing.{CanPutIn, PutsAt, Deepens, IsDone, PushesDo
 use Rattle.node_arena.specs.Structures.{Tree, empty, rooted, flat, links_of, walk_of, spine_of, IsStanding, IsConforming}
 use Rattle.node_arena.specs.Trees.{Trees, done, absent, node, roots, Stands}
 use Rattle.node_arena.specs.Walks.{walk}
+use Rattle.node_arena.proofs.ChangesLemmas.{ChangesOnlyTree-nodes}
 use Rattle.node_arena.proofs.InsertionsLemmas.{Conform-PutsAt, IsPutIn-node}
+use Rattle.node_arena.proofs.StructuresLemmas.{tree_unique}
 use Rattle.node_arena.proofs.Uniqueness.{trees_unique}
 use Rattle.insert_gen.specs.Below.{IsLinked, own_depth, IsEnough, PutsBelow, IsFirst}
 use Rattle.insert_gen.specs.Inserting.{has_ends, raised, KeepsLow}
@@ -110,36 +112,39 @@ linked-top s k a st (rooted j m run ls) i h c linked top =
 
 -- the kept spine of the new structure is low, where that of its tree is told
 keeps-low : (s : List NodeKind) (a b : ArenaState) (st new : Structure) (u : Trees) (i : ℕ) (deep : Option ℕ) → Stands b u → roots u ≡ Some i ∷ []
-    → new.top ≡ tops.Node i → IsRaised s st.spine new.spine deep → Fits s st.spine new.spine (spine s u) deep → (deep ≡ None → PushesDown a b)
-    → KeepsLow s a b st new
-keeps-low s a b st new u i deep stands root top r f told = record { one = f.one; none = r.none; told = λ t h. pick t h f.told }
+    → new.top ≡ tops.Node i → IsRaised s st.spine new.spine deep → Fits s st.spine new.spine (spine s u) deep → (r0 : Trees)
+    → ((t : Tree) → IsStanding s a st t → links_of t ≡ r0) → (deep ≡ None → PushesDown a b r0 u) → KeepsLow s a b st new
+keeps-low s a b st new u i deep stands root top r f r0 old told = record { one = f.one; none = r.none; told = λ t v h g. pick t v h g f.told }
   where
     links-same : (t : Tree) → IsStanding s b new t → roots (links_of t) ≡ roots u
     links-same empty h = let e = sym h.top ∙ top in cc
     links-same (flat j run) h = let e = sym h.top ∙ top in cc
     links-same (rooted j m run ls) h = ap (λ n. Some n ∷ []) (node-same j i (sym h.top ∙ top)) ∙ sym root
 
-    pick : (t : Tree) → IsStanding s b new t → (new.spine ≤ max st.spine (spine s u)) ⊎ (deep ≡ None)
-        → (new.spine ≤ max st.spine (spine_of s t)) ⊎ PushesDown a b
-    pick t h (inl l) =
-        let same : links_of t ≡ u = trees_unique b (links_of t) u h.nodes stands (links-same t h) in
+    pick : (t v : Tree) → IsStanding s a st t → IsStanding s b new v → (new.spine ≤ max st.spine (spine s u)) ⊎ (deep ≡ None)
+        → (new.spine ≤ max st.spine (spine_of s v)) ⊎ PushesDown a b (links_of t) (links_of v)
+    pick t v g h (inl l) =
+        let same : links_of v ≡ u = trees_unique b (links_of v) u h.nodes stands (links-same v h) in
         inl (subst (λ w. new.spine ≤ max st.spine (spine s w)) (sym same) l)
-    pick t h (inr e) = inr (told e)
+    pick t v g h (inr e) =
+        let same : links_of v ≡ u = trees_unique b (links_of v) u h.nodes stands (links-same v h) in
+        inr (subst (λ w. PushesDown a b w (links_of v)) (sym (old t g)) (subst (PushesDown a b r0) (sym same) (told e)))
 
 module _ (s : List NodeKind) (k : ℕ) (a b : ArenaState) (x : Elem) (st new : Structure) (i : ℕ) where
   -- x is put in below the root
   pub put-linked : (t : Tree) (deep : Option ℕ) → b.runs ≡ a.runs → IsStanding s a st t → IsConforming s k st t → Lacks x.at (walk_of s t)
-      → st.top ≡ tops.Node i → IsDone s a b x (links_of t) deep → (deep ≡ None → PushesDown a b)
+      → st.top ≡ tops.Node i → IsDone s a b x (links_of t) deep
       → new.top ≡ tops.Node i → new.len ≡ st.len + 1 → IsRaised s st.spine new.spine deep
       → IsPutIn s k a b x t new × KeepsLow s a b st new
-  put-linked empty deep runs h c lacks old r told top len raise = let e = sym h.top ∙ old in cc
-  put-linked (flat j run) deep runs h c lacks old r told top len raise = let e = sym h.top ∙ old in cc
-  put-linked (rooted j m run ls) deep runs h c lacks old r told top len raise =
+  put-linked empty deep runs h c lacks old r top len raise = let e = sym h.top ∙ old in cc
+  put-linked (flat j run) deep runs h c lacks old r top len raise = let e = sym h.top ∙ old in cc
+  put-linked (rooted j m run ls) deep runs h c lacks old r top len raise =
       let same : j ≡ i = node-same j i (sym h.top ∙ old) in
       let root : roots r.tree ≡ Some i ∷ [] = r.same_root ∙ ap (λ n. Some n ∷ []) same in
-      let f = fits s st.spine new.spine (node j m run ls done) r.tree deep r.deepens r.puts.spine_low c.spine_kept c.spine_low raise in (
+      let f = fits s st.spine new.spine (node j m run ls done) r.tree deep r.goes.deepens r.puts.spine_low c.spine_kept c.spine_low raise in (
         IsPutIn-node s k a b x st new j m run ls i r.tree runs h c lacks r.puts root top len f.enough f.low,
-        keeps-low s a b st new r.tree i deep r.puts.stands root top raise f told,
+        keeps-low s a b st new r.tree i deep r.puts.stands root top raise f (node j m run ls done)
+            (λ t g. ap links_of (tree_unique s a st t (rooted j m run ls) g h)) r.goes.pushes,
       )
 
   first-tree : (u : Trees) (p : PutsBelow s k a b (x ∷ []) (absent done) (Some i)) → p.tree ≡ u → b.runs ≡ a.runs → st.len ≡ 0
@@ -167,8 +172,7 @@ module _ (s : List NodeKind) (k : ℕ) (a b : ArenaState) (x : Elem) (st new : S
         };
         conforms = record { tree = (other, conform); spine_kept = enough; spine_low = low };
         walk_is = puts.walk_is;
-        keeps = record { nodes = puts.keeps; runs = λ r g v. rw runs refl };
-        news = record { nodes = puts.news; runs = λ r g v. tt };
+        only = ChangesOnlyTree-nodes a b empty (rooted j m run ls) puts.only runs (λ r. tt) (λ r. tt);
       }
 
   -- x is the first element
@@ -181,10 +185,11 @@ module _ (s : List NodeKind) (k : ℕ) (a b : ArenaState) (x : Elem) (st new : S
       let p = f.below in
       let deep : Deepens (Some (own_depth (shape_at s k))) 0 (spine s p.tree) = omega (arith, f.deep) in
       let fit = fits s st.spine new.spine (absent done) p.tree (Some (own_depth (shape_at s k))) deep p.puts.spine_low c.spine_kept c.spine_low raise in
-      let told : Some (own_depth (shape_at s k)) ≡ None → PushesDown a b = λ e. cc in
+      let told : Some (own_depth (shape_at s k)) ≡ None → PushesDown a b (absent done) p.tree = λ e. cc in
       let bound : 0 ≡ st.len = h.counted in (
         first-tree p.tree p refl runs (sym bound) (linked-other (shape_at s k) linked) top len fit.enough fit.low,
-        keeps-low s a b st new p.tree i (Some (own_depth (shape_at s k))) p.puts.stands p.leads top raise fit told,
+        keeps-low s a b st new p.tree i (Some (own_depth (shape_at s k))) p.puts.stands p.leads top raise fit (absent done)
+            (λ t g. ap links_of (tree_unique s a st t empty g h)) told,
       )
 
 -- ---- spare nodes

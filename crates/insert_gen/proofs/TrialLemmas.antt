@@ -17,10 +17,10 @@ use Rattle.node_arena.specs.Arenas.{RunState, ArenaState, node_at, run_at}
 use Rattle.node_arena.specs.Insertions.{Lacks, IsPutIn}
 use Rattle.node_arena.specs.Kinds.{kind_at}
 use Rattle.node_arena.specs.Rules.{Serves}
-use Rattle.node_arena.specs.Structures.{Tree, empty, rooted, flat, links_of, walk_of, HasRun, IsStanding}
+use Rattle.node_arena.specs.Structures.{Tree, empty, rooted, flat, links_of, walk_of, HasRun, IsStanding, IsStructure}
 use Rattle.node_arena.specs.Trees.{Trees, done, absent, node, Stands}
 use Rattle.node_arena.proofs.PutInLemmas.{Lacks-put_in}
-use Rattle.chunk_tree.specs.Balancing.{Holds, IsRebalanced}
+use Rattle.chunk_tree.specs.Balancing.{IsRebalanced}
 use Rattle.iter_gen.specs.LookingUp.{CanBeRead, elem_with}
 use Rattle.insert_gen.specs.Inserting.{HasRoom}
 use Rattle.insert_gen.specs.Replacing.{IsThere, IsReplacedIn}
@@ -187,7 +187,7 @@ grown-put s k a b st new free x at same l g p most = record {
 -- what is rebalanced has the same elements, and a low spine
 pub grown-rebalanced : (s : List NodeKind) (k : ℕ) (a b : ArenaState) (st : Structure) (free : List Bool) {E : Type 0} (r : Result Structure E)
     → IsGrown s k a st free → b.nodes.most ≡ a.nodes.most
-    → IfOk r (λ new. (t : Tree) → Holds s k a st t → IsRebalanced s k a b st t new)
+    → IfOk r (λ new. (t : Tree) → IsStructure s k a st t → IsRebalanced s k a b st t new)
     → IfOk r (λ new. IsGrown s k b new free × (new.spine < 96) × (new.len ≡ st.len))
 grown-rebalanced s k a b st free (Err e) g most ok = tt
 grown-rebalanced s k a b st free (Ok new) g most ok =

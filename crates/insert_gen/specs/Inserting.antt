@@ -10,7 +10,7 @@ use Rattle.node_arena.specs.declared.kinds.Shape.{Shape}
 use Rattle.node_arena.specs.declared.kinds.Shape.TheVariants.{Flat, Post, Ends, Woven}
 use Rattle.node_arena.specs.Arenas.{ArenaState, run_at}
 use Rattle.node_arena.specs.Passing.{PushesDown}
-use Rattle.node_arena.specs.Structures.{Tree, IsStanding, spine_of}
+use Rattle.node_arena.specs.Structures.{Tree, links_of, IsStanding, spine_of}
 
 -- ---- spines
 
@@ -31,11 +31,12 @@ raised n None = n + 1
 raised n (Some d) = max n d
 
 -- The kept spine rises by at most one, and only where a kind has two links. It rises no higher than the new tree's spine is, except where a new node
--- pushed others down.
+-- pushed nodes of the old tree down.
 pub record KeepsLow (s : List NodeKind) (a b : ArenaState) (old new : Structure) : Type 0 where
   pub one : new.spine ≤ old.spine + 1
   pub none : has_ends s ≡ false → new.spine ≡ old.spine
-  pub told : (t : Tree) → IsStanding s b new t → (new.spine ≤ max old.spine (spine_of s t)) ⊎ PushesDown a b
+  pub told : (t u : Tree) → IsStanding s a old t → IsStanding s b new u
+      → (new.spine ≤ max old.spine (spine_of s u)) ⊎ PushesDown a b (links_of t) (links_of u)
 
 -- ---- the room of runs
 

@@ -9,7 +9,7 @@ use Rattle.node_arena.specs.declared.kinds.Shape.{Shape}
 use Rattle.node_arena.specs.declared.kinds.Shape.TheVariants.{Flat, Post, Ends, Woven}
 use Rattle.node_arena.specs.Kinds.{shape_at}
 use Rattle.insert_gen.specs.declared.needs.Spares.{Spares}
-use Rattle.insert_gen.specs.declared.needs.TheConstants.{MOST_PASSED}
+use Rattle.node_arena.specs.declared.elements.TheConstants.{MOST_PASSED}
 
 -- the number has d binary digits, 0 has none
 abbrev pub HasDigits : ℕ → ℕ → Type 0

@@ -8,17 +8,14 @@ ghost use Rattle.insert_gen.specs.Inserting.{has_two, has_ends, raised};
 
 use node_arena::{NodeKind, Shape, kind_of};
 
-/// The depth below so many nodes with two links, where both are told.
-pub(crate) fn deeper(above: Option<u8>, deep: Option<u8>) -> Option<u8>
+/// The depth below so many nodes with two links, where it is told.
+pub(crate) fn deeper(above: u8, deep: Option<u8>) -> Option<u8>
     requires few { IfSome (deeper above deep) (λ n. n ≤ 255) }
     ensures value { result ≡ deeper above deep }
 {
-    match above {
+    match deep {
         None => None,
-        Some(above) => match deep {
-            None => None,
-            Some(deep) => Some(above + deep),
-        },
+        Some(deep) => Some(above + deep),
     }
 }
 

@@ -43,6 +43,7 @@ pub(crate) fn put_in_run(
     ensures left { HasRoomLeft old.now result arena.old arena.new }
     ensures spare_room { arena.new.runs.room ≡ arena.old.runs.room }
     ensures nodes { arena.new.nodes ≡ arena.old.nodes }
+    ensures places { arena.new.runs.places ≡ arena.old.runs.places }
 {
     let top = old.top;
     match top {

@@ -1,7 +1,6 @@
 //! Insertion into a whole structure of any schema.
 ghost use Rattle.std.specs.Prelude.{◌≡◌, ◌≢◌, ◌≤◌, ◌<◌, ◌+◌, ℕ, true, false};
 ghost use Rattle.node_arena.specs.declared.kinds.Shape.TheVariants.{Flat, Woven};
-ghost use Rattle.node_arena.specs.declared.elements.TheConstants.{MOST_SPINE};
 ghost use Rattle.node_arena.specs.Insertions.{Lacks, IsPutIn, DifferInFew};
 ghost use Rattle.node_arena.specs.Kinds.{kinds_of, root_of, shape_at};
 ghost use Rattle.node_arena.specs.Rules.{AreSound, Serves};
@@ -37,7 +36,7 @@ fn put_in_nodes<L: Ledger>(
         × Lacks elem.at (walk_of kinds.now t) }
     requires few { old.now.len < 4294967295 }
     requires spare { (n : ℕ) × WantsNodes kinds.now kind old.now.len n × (n ≤ arena.old.nodes.spare) }
-    requires low { has_ends kinds.now ≡ true → old.now.spine < MOST_SPINE }
+    requires low { has_ends kinds.now ≡ true → old.now.spine < 96 }
     ensures walk { (t : Tree) → IsStanding kinds.now arena.old old.now t → IsPutIn kinds.now kind arena.old arena.new elem t result }
     ensures len { result.len ≡ old.now.len + 1 }
     ensures spine { KeepsLow kinds.now arena.old arena.new old.now result }
@@ -46,6 +45,7 @@ fn put_in_nodes<L: Ledger>(
     ensures spare { (n : ℕ) → WantsNodes kinds.now kind old.now.len n → arena.old.nodes.spare ≤ arena.new.nodes.spare + n }
     ensures runs { arena.new.runs ≡ arena.old.runs }
     ensures most { arena.new.nodes.most ≡ arena.old.nodes.most }
+    ensures places { arena.new.nodes.places ≡ arena.old.nodes.places }
 {
     match old.top {
         Top::Node(node) => {
@@ -62,7 +62,7 @@ fn put_in_nodes<L: Ledger>(
 
 /// Puts an element into a structure of the code's schema, and answers the structure that it has become. It takes no memory: what `need` answers
 /// has to be spare, and in a flat run has to be room. At most 2 ticks without woven kinds, 2h + 1 with a woven root of height h. The length is
-/// below 4,294,967,295 before, and the spine below `MOST_SPINE` where a kind has two links.
+/// below 4,294,967,295 before, and the spine below `MOST_SPINE`, 96, where a kind has two links.
 pub fn insert<L: Ledger>(
     code: &InsertCode,
     top: Structure,
@@ -76,7 +76,7 @@ pub fn insert<L: Ledger>(
     requires few { top.len < 4294967295 }
     requires spare { (n : Spares) × Wants (kinds_of code.now) (root_of code.now) top n × (n.nodes ≤ arena.old.nodes.spare)
         × (n.runs ≤ arena.old.runs.spare) }
-    requires low { has_ends (kinds_of code.now) ≡ true → top.spine < MOST_SPINE }
+    requires low { has_ends (kinds_of code.now) ≡ true → top.spine < 96 }
     requires room { HasRoom top.top (shape_at (kinds_of code.now) (root_of code.now)) arena.old }
     ensures walk { (t : Tree) → IsStanding (kinds_of code.now) arena.old top t
         → IsPutIn (kinds_of code.now) (root_of code.now) arena.old arena.new elem t result }
@@ -94,6 +94,8 @@ pub fn insert<L: Ledger>(
     ensures runs { shape_at (kinds_of code.now) (root_of code.now) ≢ Flat → arena.new.runs ≡ arena.old.runs }
     ensures nodes { shape_at (kinds_of code.now) (root_of code.now) ≡ Flat → arena.new.nodes ≡ arena.old.nodes }
     ensures most { arena.new.nodes.most ≡ arena.old.nodes.most }
+    ensures places { arena.new.nodes.places ≡ arena.old.nodes.places }
+    ensures places_runs { arena.new.runs.places ≡ arena.old.runs.places }
 {
     let kinds = code.kinds();
     let root = code.root();

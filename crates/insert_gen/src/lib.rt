@@ -22,6 +22,6 @@ mod rows;
 mod tests;
 
 pub use inserting::insert;
-pub use needs::{MOST_PASSED, MOST_WANTED, Spares, need};
+pub use needs::{Spares, need};
 pub use replacing::replace;
 pub use rows::{InsertCode, InsertRow, Over, derive_insert};

@@ -109,6 +109,7 @@ pub(crate) fn make_first<L: Ledger>(
     ensures steps { steps.new ≡ steps.old + 1 }
     ensures runs { arena.new.runs ≡ arena.old.runs }
     ensures most { arena.new.nodes.most ≡ arena.old.nodes.most }
+    ensures places { arena.new.nodes.places ≡ arena.old.nodes.places }
 {
     make_bare(kinds, kind, arena, elem, steps)
 }

@@ -4,13 +4,7 @@ ghost use Rattle.node_arena.specs.Kinds.{kinds_of, root_of};
 ghost use Rattle.insert_gen.specs.Needs.{weaves, has_woven, nodes_for, runs_for, WantsNodes, Wants};
 
 use crate::rows::InsertCode;
-use node_arena::{NodeKind, Shape, Structure, Top, digits, kind_of};
-
-/// At least as many elements as go on into one woven structure in one insertion.
-pub const MOST_PASSED: u32 = 9;
-
-/// At least as many spare nodes as one insertion reserves.
-pub const MOST_WANTED: u32 = 300;
+use node_arena::{MOST_PASSED, NodeKind, Shape, Structure, Top, digits, kind_of};
 
 /// Spare nodes, and spare flat runs.
 #[derive(Clone, Copy, Debug, PartialEq, Eq)]
@@ -42,14 +36,14 @@ pub(crate) fn has_woven(kinds: &[NodeKind]) -> bool
 fn nodes_for(kinds: &[NodeKind], shape: Shape, digits: u8) -> u32
     requires few { digits ≤ 32 }
     ensures value { result ≡ nodes_for kinds.now shape digits }
-    ensures most { result ≤ MOST_WANTED }
+    ensures most { result ≤ 257 }
 {
     match shape {
         Shape::Flat => 0,
         Shape::Woven => 1 + u32::from(digits),
         _ => {
             if has_woven(kinds) {
-                1 + MOST_PASSED * u32::from(digits)
+                1 + MOST_PASSED as u32 * u32::from(digits)
             } else {
                 1
             }
@@ -71,11 +65,12 @@ fn runs_for(shape: Shape, top: Top) -> u32
     }
 }
 
-/// So many spare nodes and runs are enough for one insertion into the structure. The nodes depend on the schema and the length alone.
+/// So many spare nodes and runs are enough for one insertion into the structure. The nodes depend on the schema and the length alone: at most 1, and
+/// `MOST_PASSED` for each of 32 binary digits, so 257.
 pub fn need(code: &InsertCode, top: &Structure) -> Spares
     ensures value { Wants (kinds_of code.now) (root_of code.now) top.now result }
     ensures rises { (len n : ℕ) → top.now.len ≤ len → WantsNodes (kinds_of code.now) (root_of code.now) len n → result.nodes ≤ n }
-    ensures most { result.nodes ≤ MOST_WANTED }
+    ensures most { result.nodes ≤ 300 }
     ensures most_runs { result.runs ≤ 1 }
 {
     let kinds = code.kinds();

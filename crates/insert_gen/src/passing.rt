@@ -5,7 +5,7 @@ ghost use Rattle.node_arena.specs.Arenas.{node_at};
 ghost use Rattle.node_arena.specs.Conforming.{spine};
 ghost use Rattle.node_arena.specs.Insertions.{DifferInFew};
 ghost use Rattle.node_arena.specs.Kinds.{shape_at};
-ghost use Rattle.node_arena.specs.Passing.{CanPutIn, IsDone, IsTold, Leaves, PushesDown};
+ghost use Rattle.node_arena.specs.Passing.{CanPutIn, IsDone, Leaves};
 ghost use Rattle.node_arena.specs.Rules.{AreSound, Serves};
 ghost use Rattle.node_arena.specs.Trees.{Trees, absent, done, Avoids};
 ghost use Rattle.node_arena.specs.Walks.{walk};
@@ -33,12 +33,12 @@ fn step_at<L: Ledger>(
     requires linked { IsSomeAnd (node_at arena.old node) (λ n. IsLinked (shape_at kinds.now n.kind)) }
     requires spare { 0 < arena.old.nodes.spare }
     ensures left { (t : Trees) → CanPutIn kinds.now arena.old elem node t → Leaves kinds.now arena.old arena.new elem t result steps.old steps.new }
-    ensures told { IsTold arena.old arena.new result }
     ensures few { DifferInFew 2 arena.old arena.new }
     ensures spare { arena.old.nodes.spare ≤ arena.new.nodes.spare + 1 }
     ensures steps { steps.new ≤ steps.old + 2 }
     ensures runs { arena.new.runs ≡ arena.old.runs }
     ensures most { arena.new.nodes.most ≡ arena.old.nodes.most }
+    ensures places { arena.new.nodes.places ≡ arena.old.nodes.places }
 {
     match kind_of(kinds, arena.kind(node)).shape {
         Shape::Post(_) => block_list::insert(kinds, node, arena, elem, steps),
@@ -65,6 +65,7 @@ fn put_all<L: Ledger>(
         → arena.old.nodes.spare ≤ arena.new.nodes.spare + length elems.now * d }
     ensures runs { arena.new.runs ≡ arena.old.runs }
     ensures most { arena.new.nodes.most ≡ arena.old.nodes.most }
+    ensures places { arena.new.nodes.places ≡ arena.old.nodes.places }
 {
     match elems.split_first() {
         None => link,
@@ -97,6 +98,7 @@ fn put_in_woven<L: Ledger>(
         → length elems.now + length (walk kinds.now t) < 2 ^ d → arena.old.nodes.spare ≤ arena.new.nodes.spare + length elems.now * d }
     ensures runs { arena.new.runs ≡ arena.old.runs }
     ensures most { arena.new.nodes.most ≡ arena.old.nodes.most }
+    ensures places { arena.new.nodes.places ≡ arena.old.nodes.places }
 {
     let link = arena.link(node, place);
     let link = put_all(kinds, kind, link, arena, elems, steps);
@@ -125,6 +127,7 @@ fn put_in_empty<L: Ledger>(
     ensures steps { steps.new ≤ steps.old + 2 }
     ensures runs { arena.new.runs ≡ arena.old.runs }
     ensures most { arena.new.nodes.most ≡ arena.old.nodes.most }
+    ensures places { arena.new.nodes.places ≡ arena.old.nodes.places }
 {
     let first = make_first(kinds, kind, arena, elem, steps);
     set_link(arena, node, place, Some(first), steps);
@@ -147,12 +150,12 @@ pub(crate) fn put_in_linked<L: Ledger>(
     requires linked { IsSomeAnd (node_at arena.old node) (λ n. IsLinked (shape_at kinds.now n.kind)) }
     requires spare { IsEnough kinds.now room arena.old.nodes.spare }
     ensures done { (t : Trees) → CanPutIn kinds.now arena.old elem.now node t → IsDone kinds.now arena.old arena.new elem.now t result }
-    ensures told { result ≡ None → PushesDown arena.old arena.new }
     ensures few { has_woven kinds.now ≡ false → DifferInFew 2 arena.old arena.new }
     ensures steps { has_woven kinds.now ≡ false → steps.new ≤ steps.old + 2 }
     ensures spare { (d : ℕ) → room < 2 ^ d → arena.old.nodes.spare ≤ arena.new.nodes.spare + (1 + passed_to_woven kinds.now * d) }
     ensures runs { arena.new.runs ≡ arena.old.runs }
     ensures most { arena.new.nodes.most ≡ arena.old.nodes.most }
+    ensures places { arena.new.nodes.places ≡ arena.old.nodes.places }
 {
     match step_at(kinds, node, arena, *elem, steps) {
         Step::Done { deep } => deep,

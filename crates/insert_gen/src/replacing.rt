@@ -19,6 +19,8 @@ fn replace_at<L: Ledger>(arena: &mut Arena, spot: Spot, elem: Elem, steps: &mut 
     ensures spare { arena.new.nodes.spare ≡ arena.old.nodes.spare }
     ensures spare_runs { arena.new.runs.spare ≡ arena.old.runs.spare }
     ensures most { arena.new.nodes.most ≡ arena.old.nodes.most }
+    ensures places { arena.new.nodes.places ≡ arena.old.nodes.places }
+    ensures places_runs { arena.new.runs.places ≡ arena.old.runs.places }
     ensures steps { steps.new ≤ steps.old + 1 }
 {
     match spot {
@@ -45,6 +47,8 @@ pub fn replace<L: Ledger>(
     ensures spare { arena.new.nodes.spare ≡ arena.old.nodes.spare }
     ensures spare_runs { arena.new.runs.spare ≡ arena.old.runs.spare }
     ensures most { arena.new.nodes.most ≡ arena.old.nodes.most }
+    ensures places { arena.new.nodes.places ≡ arena.old.nodes.places }
+    ensures places_runs { arena.new.runs.places ≡ arena.old.runs.places }
     ensures steps { steps.new ≤ steps.old + 1 }
 {
     match find(code.kinds(), arena, top, elem.at) {

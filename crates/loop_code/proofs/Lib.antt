@@ -23,3 +23,5 @@ pub mod ValuesLemmas
 pub mod WalkedLemmas
 pub mod Dimensions
 pub mod CodesLemmas
+pub mod KernelAccesses
+pub mod AbsentAccesses

@@ -3,9 +3,10 @@ use Rattle.std.proofs.Common.{◌≡◌, ◌≢◌, ◌≤◌, ◌+◌, ℕ, Lis
 use Rattle.node_arena.specs.declared.elements.Elem.{Elem}
 use Rattle.node_arena.specs.Arenas.{NodeState, RunState, ArenaState, node_at, run_at, ChangesNode, ChangesRun}
 use Rattle.node_arena.specs.Insertions.{Misses, DifferInFew}
-use Rattle.node_arena.specs.Structures.{Tree, flat, links_of, Keeps, TakesNew}
-use Rattle.node_arena.specs.Trees.{Trees, done, node, stored, Stands, Avoids, KeepsOutside, TakesFree}
+use Rattle.node_arena.specs.Structures.{Tree, empty, flat, links_of, AvoidsRun, Keeps, TakesNew, ChangesOnlyTree}
+use Rattle.node_arena.specs.Trees.{Trees, done, node, stored, beside, Stands, Avoids, KeepsOutside, TakesFree, ChangesOnly}
 use Rattle.node_arena.proofs.FramesLemmas.{Stands-changed}
+use Rattle.node_arena.proofs.RowsLemmas.{Avoids-beside, beside-Avoids}
 
 -- ---- numbers that are taken
 
@@ -62,6 +63,56 @@ TakesFree-same a t i h v = v
 pub TakesFree-then : (a b : ArenaState) (t u v : Trees) → KeepsOutside a b t → TakesFree a t u → TakesFree b u v → TakesFree a t v
 TakesFree-then a b t u v keeps first second i h away = second i (subst IsSome (sym (keeps i h away)) h) (first i h away)
 
+-- ---- nodes that change, and no others
+
+-- nothing is changed
+pub ChangesOnly-same : (a : ArenaState) (t : Trees) → ChangesOnly a a t t
+ChangesOnly-same a t = record { others = λ i h v. refl; stays = λ i h. h; news = λ i h v. v }
+
+-- what was outside the old trees is as before
+pub KeepsOutside-only : (a b : ArenaState) (t u : Trees) → ChangesOnly a b t u → KeepsOutside a b t
+KeepsOutside-only a b t u h i some v = h.others i v (h.news i some v)
+
+-- one node is written, which the new trees have
+pub ChangesOnly-change : (a b : ArenaState) (t u : Trees) (i : ℕ) (slot : Option NodeState) → ChangesNode a b i slot → (Avoids i u → ⊥)
+    → ((j : ℕ) → Avoids j u → Avoids j t) → TakesFree a t u → ChangesOnly a b t u
+ChangesOnly-change a b t u i slot c within stays news = record {
+  others = λ j v w. c.node.others j (λ same. within (subst (λ n. Avoids n u) same w));
+  stays = stays;
+  news = news;
+}
+
+-- first one change and then another one
+pub ChangesOnly-then : (a b c : ArenaState) (t u v : Trees) → ChangesOnly a b t u → ChangesOnly b c u v → ChangesOnly a c t v
+ChangesOnly-then a b c t u v first second = record {
+  others = λ i h g. second.others i (second.stays i g) g ∙ first.others i h (second.stays i g);
+  stays = λ i g. first.stays i (second.stays i g);
+  news = λ i some h.
+      let w : Avoids i u = first.news i some h in
+      second.news i (subst IsSome (sym (first.others i h w)) some) w;
+}
+
+-- what hangs at the links of a node is changed, and then the node is written
+pub ChangesOnly-under : (a b c : ArenaState) (i k m : ℕ) (run other : List Elem) (ls ms : Trees) (slot : Option NodeState) → ChangesOnly a b ls ms
+    → ChangesNode b c i slot → ChangesOnly a c (node i k run ls done) (node i m other ms done)
+ChangesOnly-under a b c i k m run other ls ms slot h e = record {
+  others = λ j v w. e.node.others j (λ same. v.0 (sym same)) ∙ h.others j v.1 w.1;
+  stays = λ j w. (w.0, h.stays j w.1, tt);
+  news = λ j some v. (v.0, h.news j some v.1, tt);
+}
+
+-- some trees of a row are changed
+pub ChangesOnly-beside : (a b : ArenaState) (before t u later : Trees) → ChangesOnly a b t u
+    → ChangesOnly a b (beside before (beside t later)) (beside before (beside u later))
+ChangesOnly-beside a b before t u later h = record {
+  others = λ j v w. h.others j (parts t j v).1.0 (parts u j w).1.0;
+  stays = λ j w. let q = parts u j w in Avoids-beside j before (beside t later) q.0 (Avoids-beside j t later (h.stays j q.1.0) q.1.1);
+  news = λ j some v. let q = parts t j v in Avoids-beside j before (beside u later) q.0 (Avoids-beside j u later (h.news j some q.1.0) q.1.1);
+}
+  where
+    parts : (w : Trees) (j : ℕ) → Avoids j (beside before (beside w later)) → Avoids j before × (Avoids j w × Avoids j later)
+    parts w j v = let q = beside-Avoids j before (beside w later) v in (q.0, beside-Avoids j w later q.1)
+
 -- ---- structures
 
 -- nothing is changed
@@ -115,6 +166,41 @@ TakesNew-then a b t u v keeps first second = record {
   nodes = TakesFree-then a b (links_of t) (links_of u) (links_of v) keeps.nodes first.nodes second.nodes;
   runs = λ i h away. second.runs i (subst IsSome (sym (keeps.runs i h away)) h) (first.runs i h away);
 }
+
+-- nodes are changed, and no runs
+pub ChangesOnlyTree-nodes : (a b : ArenaState) (t u : Tree) → ChangesOnly a b (links_of t) (links_of u) → b.runs ≡ a.runs
+    → ((i : ℕ) → AvoidsRun i t) → ((i : ℕ) → AvoidsRun i u) → ChangesOnlyTree a b t u
+ChangesOnlyTree-nodes a b t u h same v w = record {
+  nodes = h;
+  runs = record { others = λ i x y. rw same refl; stays = λ i y. v i; news = λ i some x. w i };
+}
+
+-- the structure's run is changed
+pub ChangesOnlyTree-run : (a b : ArenaState) (i : ℕ) (run other : List Elem) (slot : Option RunState) → ChangesRun a b i slot
+    → ChangesOnlyTree a b (flat i run) (flat i other)
+ChangesOnlyTree-run a b i run other slot c = record {
+  nodes = record { others = λ j v w. let same : b.nodes ≡ a.nodes = c.nodes in rw same refl; stays = λ j w. tt; news = λ j some v. tt };
+  runs = record { others = λ j v w. c.run.others j (λ same. v (sym same)); stays = λ j w. w; news = λ j some v. v };
+}
+
+-- an empty structure becomes a run that is made
+pub ChangesOnlyTree-made_run : (a b : ArenaState) (i : ℕ) (run : List Elem) (slot : Option RunState) → ChangesRun a b i slot → run_at a i ≡ None
+    → ChangesOnlyTree a b empty (flat i run)
+ChangesOnlyTree-made_run a b i run slot c free = record {
+  nodes = record { others = λ j v w. let same : b.nodes ≡ a.nodes = c.nodes in rw same refl; stays = λ j w. tt; news = λ j some v. tt };
+  runs = record { others = λ j v w. c.run.others j (λ same. w (sym same)); stays = λ j w. tt; news = λ j some v. run_differs a j i some free };
+}
+
+-- what was outside the old tree is as before
+pub Keeps-only : (a b : ArenaState) (t u : Tree) → ChangesOnlyTree a b t u → Keeps a b t
+Keeps-only a b t u h = record {
+  nodes = KeepsOutside-only a b (links_of t) (links_of u) h.nodes;
+  runs = λ i some v. h.runs.others i v (h.runs.news i some v);
+}
+
+-- the further numbers were free
+pub TakesNew-only : (a b : ArenaState) (t u : Tree) → ChangesOnlyTree a b t u → TakesNew a t u
+TakesNew-only a b t u h = record { nodes = h.nodes.news; runs = h.runs.news }
 
 -- ---- how many nodes differ
 

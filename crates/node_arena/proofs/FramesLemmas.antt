@@ -1,7 +1,7 @@
 -- What a change of an arena leaves as it was.
-use Rattle.std.proofs.Common.{◌≡◌, ℕ, Option, Some, None, IsSome, ◌∙◌, sym, subst, refl}
+use Rattle.std.proofs.Common.{◌≡◌, ℕ, List, ◌∷◌, Option, Some, None, IsSome, ◌∙◌, sym, subst, refl}
 use Rattle.node_arena.specs.Arenas.{NodeState, ArenaState, node_at, ChangesNode}
-use Rattle.node_arena.specs.Trees.{Trees, done, absent, node, stored, Stands, Avoids, IsApart, KeepsOutside}
+use Rattle.node_arena.specs.Trees.{Trees, done, absent, node, roots, stored, Stands, Avoids, IsApart, KeepsOutside}
 
 -- trees that avoid the changed number stand as before
 pub Stands-changed : {a b : ArenaState} {i : ℕ} {slot : Option NodeState} → (t : Trees) → ChangesNode a b i slot → Avoids i t → Stands a t → Stands b t
@@ -18,6 +18,15 @@ Avoids-free a (node j k run ls rest) i e h = (
   Avoids-free a ls i e h.1,
   Avoids-free a rest i e h.2,
 )
+
+same-head : (i j : ℕ) (l m : List (Option ℕ)) → Some i ∷ l ≡ Some j ∷ m → i ≡ j
+same-head i j l m e = cc
+
+-- the first root is in its tree
+pub Avoids-root : (t : Trees) (i : ℕ) (rest : List (Option ℕ)) → roots t ≡ Some i ∷ rest → Avoids i t → ⊥
+Avoids-root done i rest e v = cc
+Avoids-root (absent t) i rest e v = cc
+Avoids-root (node j k run ls t) i rest e v = v.0 (same-head j i (roots t) rest e)
 
 -- the frame: trees apart from t stand as before
 pub Stands-outside : (a b : ArenaState) (t u : Trees) → KeepsOutside a b t → IsApart u t → Stands a u → Stands b u

@@ -36,7 +36,8 @@ levels s (node i k run ls rest) = max (levels_by (shape_at s k) (levels s ls)) (
 
 -- ---- powers of two
 
-pow-below : (h d : ℕ) → 2 ^ h < 2 ^ d → h < d
+-- of two powers of 2, the lower one has the lower exponent
+pub pow-below : (h d : ℕ) → 2 ^ h < 2 ^ d → h < d
 pow-below h zero l = let s : 0 < 2 ^ h = pow_pos h in let o : 2 ^ 0 ≡ 1 = pow-zero 2 in absurd (omega arith)
 pow-below zero (suc d) l = omega arith
 pow-below (suc h) (suc d) l =

@@ -12,7 +12,7 @@ use Rattle.node_arena.specs.Passing.{AllLack, PutsAt}
 use Rattle.node_arena.specs.Structures.{rooted, flat, IsStanding, IsConforming}
 use Rattle.node_arena.specs.Trees.{Trees, done, absent, node, roots}
 use Rattle.node_arena.specs.Walks.{walk}
-use Rattle.node_arena.proofs.ChangesLemmas.{Keeps-change_run}
+use Rattle.node_arena.proofs.ChangesLemmas.{ChangesOnlyTree-nodes, ChangesOnlyTree-run}
 use Rattle.node_arena.proofs.PutInLemmas.{length-put_in, IsRising-put_in, IsRising-all_put_in}
 
 head-same : (x y : Option ℕ) (xs ys : List (Option ℕ)) → x ∷ xs ≡ y ∷ ys → x ≡ y
@@ -56,8 +56,7 @@ PutsAt-PutsIn s k a b xs t u p hang level = record {
   level = p.level level;
   spine_low = p.spine_low;
   walk_is = p.walk_is;
-  keeps = p.keeps;
-  news = p.news;
+  only = p.only;
 }
 
 -- ---- structures
@@ -80,8 +79,7 @@ module _ (s : List NodeKind) (k : ℕ) (a b : ArenaState) (x : Elem) (st new : S
         stands = record { top = top; nodes = p.stands; once = p.once; run = tt; counted = ap length is ∙ one ∙ ap (λ v. v + 1) count ∙ sym len };
         conforms = record { tree = (c.tree.0, conform); spine_kept = kept; spine_low = low };
         walk_is = is;
-        keeps = record { nodes = p.keeps; runs = λ r g v. rw runs refl };
-        news = record { nodes = p.news; runs = λ r g v. tt };
+        only = ChangesOnlyTree-nodes a b (rooted i m run ls) (rooted j n run' ls') p.only runs (λ r. tt) (λ r. tt);
       }
 
   -- a node's structure has x put in, where its tree has, and the new structure names the new root
@@ -117,6 +115,5 @@ module _ (s : List NodeKind) (k : ℕ) (a b : ArenaState) (x : Elem) (st new : S
         };
         conforms = record { tree = (c.tree.0, some, IsRising-put_in x run c.tree.2 lacks); spine_kept = omega arith; spine_low = low };
         walk_is = refl;
-        keeps = Keeps-change_run a b i run (Some r) change;
-        news = record { nodes = λ j g v. tt; runs = λ j g v. v };
+        only = ChangesOnlyTree-run a b i run (put_in x run) (Some r) change;
       }

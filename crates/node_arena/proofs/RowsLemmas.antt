@@ -5,14 +5,9 @@ use Rattle.node_arena.specs.declared.kinds.NodeKind.{NodeKind}
 use Rattle.node_arena.specs.Arenas.{ArenaState}
 use Rattle.node_arena.specs.Kinds.{shape_at}
 use Rattle.node_arena.specs.Trees.{Trees, done, absent, node, roots, Stands, Avoids, IsApart, IsReachedOnce, KeepsOutside, TakesFree}
+pub use Rattle.node_arena.specs.Trees.{beside}
 use Rattle.node_arena.specs.Walks.{walks, joined, parts}
 use Rattle.node_arena.proofs.FramesLemmas.{Stands-outside}
-
--- the trees of the one row, and then those of the other
-abbrev pub beside : Trees → Trees → Trees
-beside done u = u
-beside (absent t) u = absent (beside t u)
-beside (node i k run ls t) u = node i k run ls (beside t u)
 
 -- ---- two rows side by side
 

@@ -61,17 +61,19 @@ run_at a id = run_in a.runs id
 
 -- ---- one node or run changes
 
--- the nodes have this under the number, and all others stay
+-- the nodes have this under the number, all others stay, and no memory is taken
 pub record IsNodeChange (old new : NodesState) (id : ℕ) (slot : Option NodeState) : Type 0 where
   pub changed : node_in new id ≡ slot
   pub others : (other : ℕ) → other ≢ id → node_in new other ≡ node_in old other
   pub most : new.most ≡ old.most
+  pub places : new.places ≡ old.places
 
--- the runs have this under the number, and all others stay
+-- the runs have this under the number, all others stay, and no memory for more runs is taken
 pub record IsRunChange (old new : RunsState) (id : ℕ) (slot : Option RunState) : Type 0 where
   pub changed : run_in new id ≡ slot
   pub others : (other : ℕ) → other ≢ id → run_in new other ≡ run_in old other
   pub room : new.room ≡ old.room
+  pub places : new.places ≡ old.places
 
 -- the arena has this node under the number, and all other nodes and all runs stay
 pub record ChangesNode (old new : ArenaState) (id : ℕ) (slot : Option NodeState) : Type 0 where

@@ -4,10 +4,10 @@ use Rattle.node_arena.specs.declared.elements.Elem.{Elem}
 use Rattle.node_arena.specs.declared.elements.Structure.{Structure}
 use Rattle.node_arena.specs.declared.kinds.NodeKind.{NodeKind}
 use Rattle.node_arena.specs.Arenas.{ArenaState, node_at}
-use Rattle.node_arena.specs.Trees.{Trees, Stands, IsReachedOnce, KeepsOutside, TakesFree}
+use Rattle.node_arena.specs.Trees.{Trees, Stands, IsReachedOnce, ChangesOnly}
 use Rattle.node_arena.specs.Walks.{walk}
 use Rattle.node_arena.specs.Conforming.{Hang, whole, IsLevel, spine}
-use Rattle.node_arena.specs.Structures.{Tree, walk_of, IsStanding, IsConforming, Keeps, TakesNew}
+use Rattle.node_arena.specs.Structures.{Tree, walk_of, IsStanding, IsConforming, ChangesOnlyTree}
 
 -- ---- lists
 
@@ -49,8 +49,7 @@ pub record PutsIn (s : List NodeKind) (a b : ArenaState) (xs : List Elem) (t u :
   pub level : IsLevel s t → IsLevel s u
   pub spine_low : spine s u ≤ 1 + spine s t
   pub walk_is : walk s u ≡ all_put_in xs (walk s t)
-  pub keeps : KeepsOutside a b t
-  pub news : TakesFree a t u
+  pub only : ChangesOnly a b t u
 
 -- ---- structures
 
@@ -60,5 +59,4 @@ pub record IsPutIn (s : List NodeKind) (k : ℕ) (a b : ArenaState) (x : Elem) (
   pub stands : IsStanding s b new tree
   pub conforms : IsConforming s k new tree
   pub walk_is : walk_of s tree ≡ put_in x (walk_of s t)
-  pub keeps : Keeps a b t
-  pub news : TakesNew a t tree
+  pub only : ChangesOnlyTree a b t tree

@@ -13,7 +13,7 @@ use Rattle.node_arena.specs.Arenas.{ArenaState, NodeState, node_at, ChangesNode}
 use Rattle.node_arena.specs.Conforming.{Conform, Hang, whole, IsLevel, IsRising, spine}
 use Rattle.node_arena.specs.Insertions.{PutsIn, Lacks, all_put_in}
 use Rattle.node_arena.specs.Kinds.{shape_at}
-use Rattle.node_arena.specs.Trees.{Trees, done, node, roots, Stands, Avoids, IsReachedOnce, KeepsOutside, TakesFree}
+use Rattle.node_arena.specs.Trees.{Trees, done, node, roots, Stands, Avoids, IsReachedOnce, ChangesOnly}
 use Rattle.node_arena.specs.Walks.{walk}
 
 -- ---- kinds and their links
@@ -83,11 +83,10 @@ abbrev pub Deepens : Option ℕ → ℕ → ℕ → Type 0
 Deepens None n m = m ≤ 1 + n
 Deepens (Some d) n m = m ≡ max n d
 
--- the depth below so many nodes with two links, where both are told
-abbrev pub deeper : Option ℕ → Option ℕ → Option ℕ
-deeper None deep = None
-deeper (Some p) None = None
-deeper (Some p) (Some d) = Some (p + d)
+-- the depth below so many nodes with two links, where it is told
+abbrev pub deeper : ℕ → Option ℕ → Option ℕ
+deeper p None = None
+deeper p (Some d) = Some (p + d)
 
 -- how deep a new node with these links goes, below so many nodes with two links, where something hangs behind its run or not; none where it pushes
 -- that down
@@ -98,9 +97,19 @@ wedge_depth (Ends q r) false p = Some (p + 1)
 wedge_depth (Ends q r) true p = None
 wedge_depth Woven behind p = Some 0
 
--- a node is new, with nothing before its run and something behind it
-abbrev pub PushesDown : ArenaState → ArenaState → Type 0
-PushesDown a b = (j : ℕ) × (i : ℕ) × (node_at a j ≡ None) × IsSomeAnd (node_at b j) (λ n. n.links ≡ None ∷ Some i ∷ [])
+-- a node of the new tree is new, with nothing before its run and a node of the old tree behind it
+pub record PushesDown (a b : ArenaState) (old new : Trees) : Type 0 where
+  pub wedge : ℕ
+  pub pushed : ℕ
+  pub is_free : node_at a wedge ≡ None
+  pub is_new : Avoids wedge new → ⊥
+  pub was_there : Avoids pushed old → ⊥
+  pub links : IsSomeAnd (node_at b wedge) (λ n. n.links ≡ None ∷ Some pushed ∷ [])
+
+-- the spine is as the depth tells; where none is told, a node was pushed down
+pub record GoesDeep (s : List NodeKind) (a b : ArenaState) (old new : Trees) (deep : Option ℕ) : Type 0 where
+  pub deepens : Deepens deep (spine s old) (spine s new)
+  pub pushes : deep ≡ None → PushesDown a b old new
 
 -- ---- what it leaves
 
@@ -112,27 +121,22 @@ pub record PutsAt (s : List NodeKind) (k : ℕ) (a b : ArenaState) (xs : List El
   pub level : IsLevel s u
   pub spine_low : spine s u ≤ 1 + spine s t
   pub walk_is : walk s u ≡ all_put_in xs (walk s t)
-  pub keeps : KeepsOutside a b t
-  pub news : TakesFree a t u
+  pub only : ChangesOnly a b t u
 
 -- x is in a tree with the same root, and went so deep
 pub record IsDone (s : List NodeKind) (a b : ArenaState) (x : Elem) (t : Trees) (deep : Option ℕ) : Type 0 where
   pub tree : Trees
   pub same_root : roots tree ≡ roots t
   pub puts : PutsIn s a b (x ∷ []) t tree
-  pub deepens : Deepens deep (spine s t) (spine s tree)
+  pub goes : GoesDeep s a b t tree deep
 
 -- Nothing was written, and x goes on; or the kind behind the run is woven, and one write took the end of the node's run away. The ticks were n
 -- before, and are m.
 abbrev pub GoesOn : List NodeKind → ArenaState → ArenaState → Elem → ℕ → NodeState → ℕ → List Elem → ℕ → ℕ → Type 0
 GoesOn s a b x i passer p xs n m = ((b ≡ a) × (xs ≡ x ∷ []) × (m ≡ n)) ⊎ ((shape_at s p ≡ Woven) × ChangesNode a b i (Some passer) × (m ≡ n + 1))
 
--- The elements still have to go into the structure at this side of node i, which is of another discipline. With them there, and with the link
--- set to its root, x is in the tree, under the old root, and as deep as they went there, below the nodes above. Where that structure keeps its
--- root, the link is set already.
-pub record IsPassed (s : List NodeKind) (a b : ArenaState) (x : Elem) (t : Trees) (i : ℕ) (at_side : Side) (xs : List Elem) (above : Option ℕ)
-    (n m : ℕ) : Type 0 where
-  -- the node, the link, and what hangs there
+-- node i has a link at this side, of another discipline, and below is what hangs there; it conforms with the link's kind, and is no deeper than t
+pub record LeadsOn (s : List NodeKind) (b : ArenaState) (t : Trees) (i : ℕ) (at_side : Side) : Type 0 where
   pub passer : NodeState
   pub there : node_at b i ≡ Some passer
   pub link : LinkPlace
@@ -146,24 +150,25 @@ pub record IsPassed (s : List NodeKind) (a b : ArenaState) (x : Elem) (t : Trees
   pub away : Avoids i below
   pub conforms : Conform s link.kind below
   pub spine_low : spine s below ≤ spine s t
-  -- the elements
+
+-- the elements lie at this side of the run, what hangs there has none of their coordinates, and together they are no more than t has
+pub record CanGoOn (s : List NodeKind) (run : List Elem) (at_side : Side) (below t : Trees) (xs : List Elem) : Type 0 where
   pub some : xs ≢ []
-  pub beside : LieBeside at_side passer.run xs
+  pub beside : LieBeside at_side run xs
   pub lack : AllLack xs (walk s below)
   pub counted : length xs + length (walk s below) ≤ length (walk s t)
-  -- what was written, and what is left to do
-  pub goes_on : GoesOn s a b x i passer link.kind xs n m
-  pub spare : b.nodes.spare ≡ a.nodes.spare
-  pub lift : (c d : ArenaState) (v : Trees) (top : Option ℕ) → PutsAt s link.kind b c xs below v → roots v ≡ top ∷ []
-      → ChangesNode c d i (Some (record passer { links = slice_set passer.links link.place top }))
-      → (deep : Option ℕ) → Deepens deep (spine s below) (spine s v) → IsDone s a d x t (deeper above deep)
 
--- the depth is told, but where something was pushed down; and the nodes above are
-abbrev pub IsTold : ArenaState → ArenaState → Step → Type 0
-IsTold a b (Done None) = PushesDown a b
-IsTold a b (Done (Some d)) = Unit {0}
-IsTold a b (Pass i at_side xs None) = ⊥
-IsTold a b (Pass i at_side xs (Some p)) = Unit {0}
+-- The elements still have to go into the structure at this side of node i, which is of another discipline. With them there, and with the link
+-- set to its root, x is in the tree, under the old root, and as deep as they went there, below the nodes above. Where that structure keeps its
+-- root, the link is set already.
+pub record IsPassed (s : List NodeKind) (a b : ArenaState) (x : Elem) (t : Trees) (i : ℕ) (at_side : Side) (xs : List Elem) (above n m : ℕ) : Type 0 where
+  pub on : LeadsOn s b t i at_side
+  pub can : CanGoOn s on.passer.run at_side on.below t xs
+  pub goes_on : GoesOn s a b x i on.passer on.link.kind xs n m
+  pub spare : b.nodes.spare ≡ a.nodes.spare
+  pub lift : (c d : ArenaState) (v : Trees) (top : Option ℕ) → PutsAt s on.link.kind b c xs on.below v → roots v ≡ top ∷ []
+      → ChangesNode c d i (Some (record on.passer { links = slice_set on.passer.links on.link.place top }))
+      → (deep : Option ℕ) → GoesDeep s b c on.below v deep → IsDone s a d x t (deeper above deep)
 
 -- What is left to do after an insertion into nodes of one discipline. The ticks were n before, and are m.
 abbrev pub Leaves : List NodeKind → ArenaState → ArenaState → Elem → Trees → Step → ℕ → ℕ → Type 0

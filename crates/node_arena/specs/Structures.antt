@@ -10,7 +10,7 @@ use Rattle.node_arena.specs.declared.kinds.NodeKind.{NodeKind}
 use Rattle.node_arena.specs.declared.kinds.Shape.TheVariants.{Flat}
 use Rattle.node_arena.specs.Arenas.{ArenaState, run_at}
 use Rattle.node_arena.specs.Kinds.{shape_at}
-use Rattle.node_arena.specs.Trees.{Trees, done, absent, node, Stands, IsApart, IsReachedOnce, KeepsOutside, TakesFree}
+use Rattle.node_arena.specs.Trees.{Trees, done, absent, node, Stands, IsApart, IsReachedOnce, KeepsOutside, TakesFree, ChangesOnly}
 use Rattle.node_arena.specs.Walks.{walk}
 use Rattle.node_arena.specs.Conforming.{Conform, IsRising, spine}
 
@@ -72,6 +72,11 @@ pub record IsConforming (s : List NodeKind) (k : ℕ) (st : Structure) (t : Tree
   pub spine_kept : spine_of s t ≤ st.spine
   pub spine_low : st.spine ≤ MOST_SPINE
 
+-- the structure is this tree, which stands in the arena and conforms with the kind
+pub record IsStructure (s : List NodeKind) (k : ℕ) (a : ArenaState) (st : Structure) (t : Tree) : Type 0 where
+  pub stands : IsStanding s a st t
+  pub conforms : IsConforming s k st t
+
 -- ---- apart from one another
 
 -- the tree isn't the flat run with this number
@@ -100,3 +105,14 @@ pub record Keeps (old new : ArenaState) (t : Tree) : Type 0 where
 pub record TakesNew (a : ArenaState) (old new : Tree) : Type 0 where
   pub nodes : TakesFree a (links_of old) (links_of new)
   pub runs : (i : ℕ) → IsSome (run_at a i) → AvoidsRun i old → AvoidsRun i new
+
+-- the same of flat runs: every other run is as before, and the new tree is the run that the old one was, or one with a free number
+pub record ChangesOnlyRun (a b : ArenaState) (old new : Tree) : Type 0 where
+  pub others : (i : ℕ) → AvoidsRun i old → AvoidsRun i new → run_at b i ≡ run_at a i
+  pub stays : (i : ℕ) → AvoidsRun i new → AvoidsRun i old
+  pub news : (i : ℕ) → IsSome (run_at a i) → AvoidsRun i old → AvoidsRun i new
+
+-- the tree has become another one, and nothing else has: no node and no run of neither differs, and none of the old tree is left over
+pub record ChangesOnlyTree (a b : ArenaState) (old new : Tree) : Type 0 where
+  pub nodes : ChangesOnly a b (links_of old) (links_of new)
+  pub runs : ChangesOnlyRun a b old new

@@ -25,6 +25,12 @@ Stands a done = Unit {0}
 Stands a (absent rest) = Stands a rest
 Stands a (node i k run ls rest) = (node_at a i ≡ Some (stored k run ls)) × Stands a ls × Stands a rest
 
+-- the links of the one row, and then those of the other
+abbrev pub beside : Trees → Trees → Trees
+beside done u = u
+beside (absent t) u = absent (beside t u)
+beside (node i k run ls t) u = node i k run ls (beside t u)
+
 -- no node of the trees has this number
 abbrev pub Avoids : ℕ → Trees → Type 0
 Avoids i done = Unit {0}
@@ -51,3 +57,10 @@ KeepsOutside old new t = (i : ℕ) → IsSome (node_at old i) → Avoids i t →
 -- the new trees have no number that had a node in the arena, but those of the old trees
 abbrev pub TakesFree : ArenaState → Trees → Trees → Type 0
 TakesFree a old new = (i : ℕ) → IsSome (node_at a i) → Avoids i old → Avoids i new
+
+-- the trees have become others, and nothing else has: what has a number of neither is as before, and the new trees have each number of the old ones,
+-- and further ones that were free
+pub record ChangesOnly (a b : ArenaState) (old new : Trees) : Type 0 where
+  pub others : (i : ℕ) → Avoids i old → Avoids i new → node_at b i ≡ node_at a i
+  pub stays : (i : ℕ) → Avoids i new → Avoids i old
+  pub news : TakesFree a old new

@@ -6,6 +6,7 @@ ghost use Rattle.node_arena.specs.Arenas.{ChangesNode, ChangesRun, RefusesNodes,
 ghost use Rattle.node_arena.specs.Conforming.{IsRising};
 ghost use Rattle.node_arena.specs.Kinds.{longest_of};
 ghost use Rattle.node_arena.specs.Rules.{AreSound, Serves};
+ghost use Rattle.node_arena.specs.declared.numbers.TheConstants.{NO_NUMBER};
 ghost use Rattle.node_arena.specs.declared.sized.TheConstants.{MOST_ELEMENTS};
 
 use crate::elements::Elem;
@@ -68,6 +69,20 @@ impl Arena {
         ensures runs { result.runs ≡ record { slots = []; spare = 0; room = 0; places = 0 } }
     {
         Arena::new(alloc, longest_of(kinds))
+    }
+
+    /// How many more nodes can be made without memory.
+    pub fn spare_nodes(&self) -> u32
+        ensures value { result ≡ self.now.nodes.spare }
+    {
+        self.nodes.spare()
+    }
+
+    /// How many more flat runs can be made without memory.
+    pub fn spare_runs(&self) -> usize
+        ensures value { result ≡ self.now.runs.spare }
+    {
+        self.runs.spare()
     }
 
     /// Takes memory so that at least so many nodes can be made. That is refused when out of memory, and where there would be more than
@@ -221,11 +236,13 @@ impl Arena {
         self.nodes.set_links(id, links);
     }
 
-    /// Takes a node out. Its number may be given out again.
+    /// Takes a node out. Its number may be given out again, and one more node can be made without memory; not where there is memory for more nodes
+    /// than there are numbers.
     pub fn free(&mut self, id: NodeId)
         requires there { IsSome (node_at self.old id) }
         ensures node { ChangesNode self.old self.new id None }
-        ensures spare { self.new.nodes.spare ≡ self.old.nodes.spare }
+        ensures spare { self.old.nodes.places ≤ NO_NUMBER → self.new.nodes.spare ≡ self.old.nodes.spare + 1 }
+        ensures kept { self.old.nodes.spare ≤ self.new.nodes.spare }
     {
         self.nodes.free(id);
     }

@@ -8,6 +8,9 @@ use arrayvec::ArrayVec;
 /// The greatest spine of a structure.
 pub const MOST_SPINE: u8 = 96;
 
+/// As many elements as go on at once: the upper half of a full run with one more.
+pub const MOST_PASSED: usize = 8;
+
 /// What a structure begins with: nothing, its root, or its flat run.
 #[derive(Clone, Copy, Debug, PartialEq, Eq)]
 pub enum Top {
@@ -75,7 +78,7 @@ pub enum Step {
     /// The element is put in.
     Done {
         /// How many nodes with two links there are from the root to the new node, both included; 0 if the spine stays. The spine is the greater
-        /// one of what it was and this depth. None if no more is known than that it grew by at most 1.
+        /// one of what it was and this depth. None where the new node pushed others down: the spine grew by at most 1.
         deep: Option<u8>,
     },
     /// These elements have still to go into the structure at this side of this node.
@@ -85,9 +88,8 @@ pub enum Step {
         /// The side of its run.
         side: Side,
         /// The elements, in ascending order.
-        elems: ArrayVec<Elem, 9>,
-        /// How many nodes with two links there are from the root to the node, both included: the depth at that side adds to them. None where
-        /// they weren't counted.
-        above: Option<u8>,
+        elems: ArrayVec<Elem, MOST_PASSED>,
+        /// How many nodes with two links there are from the root to the node, both included: the depth at that side adds to them.
+        above: u8,
     },
 }

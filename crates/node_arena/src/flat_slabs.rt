@@ -50,6 +50,13 @@ impl Runs {
         }
     }
 
+    /// How many more runs can be made without memory.
+    pub(crate) fn spare(&self) -> usize
+        ensures value { result ≡ self.now.spare }
+    {
+        self.prepared.len()
+    }
+
     /// Prepares at least so many runs, each with at least that room.
     pub(crate) fn reserve(&mut self, runs: u32, room: u32) -> Result<(), NoMemory>
         ensures ok { OnOk result ((runs ≤ self.new.spare) × (room ≤ self.new.room)) }

@@ -35,7 +35,7 @@ mod tests;
 pub use arena::Arena;
 pub use binary_digits::digits;
 pub use depths::wedged;
-pub use elements::{Elem, Held, MOST_SPINE, Side, Step, Structure, Top};
+pub use elements::{Elem, Held, MOST_PASSED, MOST_SPINE, Side, Step, Structure, Top};
 pub use kinds::{NodeKind, Shape, is_woven, kind_of, kinds_of, longest_of, root_of};
 pub use node_views::NodeView;
 pub use numbers::{NodeId, RunId};

@@ -3,6 +3,7 @@ ghost use Rattle.std.specs.Prelude.{◌≡◌, ◌≢◌, ◌<◌, ◌≤◌, �
 ghost use Rattle.slab.specs.Slab.{get, Updates, HasRoomFor, slab_len};
 ghost use Rattle.node_arena.specs.Arenas.{NodeState, with_elem, without_elem};
 ghost use Rattle.node_arena.specs.Stores.{usable, Alters};
+ghost use Rattle.node_arena.specs.declared.numbers.TheConstants.{NO_NUMBER};
 
 use crate::elements::Elem;
 use crate::numbers::{NO_NUMBER, NodeId};
@@ -117,7 +118,7 @@ pub(crate) fn set_links<const E: usize, const L: usize>(
 pub(crate) fn free<const E: usize, const L: usize>(slab: &mut Slab<Sized<E, L>>, id: usize)
     requires there { IsSome (get slab.old id) }
     ensures node { Updates slab.old slab.new id None }
-    ensures len { slab_len slab.new + 1 ≡ slab_len slab.old }
+    ensures room { slab.old.capacity ≤ NO_NUMBER → usable slab.new.capacity - slab_len slab.new ≡ usable slab.old.capacity - slab_len slab.old + 1 }
     ensures capacity { slab.new.capacity ≡ slab.old.capacity }
 {
     slab.remove(id);

@@ -1,5 +1,5 @@
 //! Nodes under numbers, of the least of four sizes that serves.
-ghost use Rattle.std.specs.Prelude.{◌≡◌, ◌<◌, ◌≤◌, ◌+◌, None, Some, IsSome, IsSomeAnd, IfSome, OnOk, OnErr, [], length, map, slice_get, slice_set, take};
+ghost use Rattle.std.specs.Prelude.{◌≡◌, ◌≢◌, ◌<◌, ◌≤◌, ◌+◌, ℕ, None, Some, IsSome, IsSomeAnd, IfSome, OnOk, OnErr, [], length, map, slice_get, slice_index_or, slice_set, take};
 ghost use Rattle.node_arena.specs.Arenas.{NodeState, NodesState, node_in, places_for, IsNodeChange, RefusesNodes, CanInsert, with_elem, without_elem};
 ghost use Rattle.node_arena.specs.Packing.{unpacked, link_of};
 ghost use Rattle.node_arena.specs.Stores.{places_of, room_of, slots_of, most_of};
@@ -63,6 +63,13 @@ impl Nodes {
             store: store_for(alloc, longest),
             spare: 0,
         }
+    }
+
+    /// How many more nodes can be made without memory.
+    pub(crate) fn spare(&self) -> u32
+        ensures value { result ≡ self.now.spare }
+    {
+        self.spare
     }
 
     /// Takes room for at least so many more nodes.
@@ -202,18 +209,16 @@ impl Nodes {
         }
     }
 
-    /// Takes a node out.
+    /// Takes a node out, so that one more can be made.
     pub(crate) fn free(&mut self, id: NodeId)
         requires there { IsSome (node_in self.old id) }
         ensures node { IsNodeChange self.old self.new id None }
-        ensures spare { self.new.spare ≡ self.old.spare }
+        ensures spare { self.old.places ≤ NO_NUMBER → self.new.spare ≡ self.old.spare + 1 }
+        ensures kept { self.old.spare ≤ self.new.spare }
     {
-        let number = id.number() as usize;
-        match &mut self.store {
-            Store::Two(slab) => node_slabs::free(slab, number),
-            Store::Four(slab) => node_slabs::free(slab, number),
-            Store::Eight(slab) => node_slabs::free(slab, number),
-            Store::Sixteen(slab) => node_slabs::free(slab, number),
+        free_in(&mut self.store, id);
+        if self.spare < room_of(&self.store) {
+            self.spare += 1;
         }
     }
 
@@ -264,6 +269,25 @@ fn grow(store: &mut Store, nodes: u32)
         Store::Four(slab) => node_slabs::reserve(slab, nodes),
         Store::Eight(slab) => node_slabs::reserve(slab, nodes),
         Store::Sixteen(slab) => node_slabs::reserve(slab, nodes),
+    }
+}
+
+/// Takes a node out.
+fn free_in(store: &mut Store, id: NodeId)
+    requires there { IsSome (slice_index_or (slots_of store.old) id None) }
+    ensures changed { slice_index_or (slots_of store.new) id None ≡ None }
+    ensures others { (other : ℕ) → other ≢ id → slice_index_or (slots_of store.new) other None ≡ slice_index_or (slots_of store.old) other None }
+    ensures most { most_of store.new ≡ most_of store.old }
+    ensures places { places_of store.new ≡ places_of store.old }
+    ensures room { places_of store.old ≤ NO_NUMBER → room_of store.new ≡ room_of store.old + 1 }
+    ensures none { NO_NUMBER < places_of store.old → room_of store.old ≡ 0 }
+{
+    let number = id.number() as usize;
+    match store {
+        Store::Two(slab) => node_slabs::free(slab, number),
+        Store::Four(slab) => node_slabs::free(slab, number),
+        Store::Eight(slab) => node_slabs::free(slab, number),
+        Store::Sixteen(slab) => node_slabs::free(slab, number),
     }
 }
 

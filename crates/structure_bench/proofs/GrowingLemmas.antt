@@ -12,10 +12,10 @@ use Rattle.node_arena.specs.declared.kinds.Shape.TheVariants.{Flat, Post, Ends, 
 use Rattle.node_arena.specs.Arenas.{NodeState, RunState, ArenaState, run_at}
 use Rattle.node_arena.specs.Insertions.{put_in, Lacks, IsPutIn}
 use Rattle.node_arena.specs.Rules.{Serves}
-use Rattle.node_arena.specs.Structures.{Tree, empty, rooted, flat, walk_of, IsStanding, IsConforming}
+use Rattle.node_arena.specs.Structures.{Tree, empty, rooted, flat, walk_of, IsStanding, IsConforming, IsStructure}
 use Rattle.node_arena.proofs.PutInLemmas.{Lacks-put_in}
 use Rattle.node_arena.proofs.StructuresLemmas.{IsStanding-outside, AreApart-flip, tree_unique}
-use Rattle.chunk_tree.specs.Balancing.{Holds, IsRebalanced}
+use Rattle.chunk_tree.specs.Balancing.{IsRebalanced}
 use Rattle.insert_gen.specs.Inserting.{HasRoom}
 use Rattle.insert_gen.specs.Needs.{runs_for}
 use Rattle.structure_bench.specs.Growing.{IsGrown, IsSame, TakesIn}
@@ -40,7 +40,7 @@ IsSame-self s k a st t h c u g = record { tree = u; stands = g; conforms = subst
 
 -- what a rebalancing says of its answer
 abbrev pub IsRebalancedIn : {E : Type 0} → List NodeKind → ℕ → ArenaState → ArenaState → Structure → Result Structure E → Type 0
-IsRebalancedIn s k a b st r = IfOk r (λ new. (t : Tree) → Holds s k a st t → IsRebalanced s k a b st t new)
+IsRebalancedIn s k a b st r = IfOk r (λ new. (t : Tree) → IsStructure s k a st t → IsRebalanced s k a b st t new)
 
 -- one that was rebalanced
 pub IsSame-rebalanced : {E : Type 0} (s : List NodeKind) (k : ℕ) (a b : ArenaState) (st : Structure) (t : Tree) → IsStanding s a st t

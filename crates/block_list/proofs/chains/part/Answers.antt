@@ -1,12 +1,11 @@
 use Rattle.std.proofs.Common.{◌≡◌, ◌≤◌, ◌+◌, ◌/◌, length, take, drop, List, ℕ, ap, ◌∙◌, sym, subst, arith}
-use Rattle.block_list.proofs.Parting.{halves, halves-fit, part-pass, part-done, parts-told, few-two, full-passes}
+use Rattle.block_list.proofs.Parting.{halves, halves-fit, part-pass, part-done, few-two, full-passes}
 use Rattle.node_arena.proofs.ChangesLemmas.{DifferInFew-one, DifferInFew-wider}
 use Rattle.node_arena.specs.Arenas.{node_at}
 use Rattle.node_arena.specs.declared.elements.Elem.{Elem}
 use Rattle.node_arena.specs.declared.elements.Step.TheVariants.{Done}
 use Rattle.node_arena.specs.Passing.{wedge_depth}
 use Rattle.node_arena.specs.Kinds.{shape_at}
-use Rattle.block_list.proofs.Ends.{some-node}
 use Rattle.block_list.proofs.chains.part.Goals as goal
 
 -- one of the two slices, by the length and the elements of the run
@@ -113,15 +112,6 @@ returns-clause-left g c = λ t f.
     (λ e. let f = c.is_woven.ensures.value.1 e in let g = c.if-is_woven.false in cc)
     c.make_behind-rest.ensures.is_new c.make_behind-rest.ensures.node c.put-2.ensures.node
     c.wedged.result (c.wedged.ensures.value ∙ ap (λ b. Done (wedge_depth (shape_at c.args.kinds.now c.post_kind-post.result) b 0)) c.is_some-behind.ensures)
-
-pub returns-clause-told : goal.returns-clause-told
-returns-clause-told g c =
-    parts-told c.args.arena.now c.make_behind-rest.new.arena c.put-2.new.self c.args.node c.make_behind-rest.result
-    (shape_at c.args.kinds.now c.post_kind-post.result) c.link-link.result c.wedged.result _ _ _
-    (c.wedged.ensures.value
-    ∙ ap (λ b. Done (wedge_depth (shape_at c.args.kinds.now c.post_kind-post.result) b 0)) c.is_some-behind.ensures)
-    c.make_behind-rest.ensures.is_new (some-node c.args.arena.now c.args.node c.view-full.result c.view-full.ensures.value)
-    c.make_behind-rest.ensures.node c.put-2.ensures.node
 
 pub returns-clause-few : goal.returns-clause-few
 returns-clause-few g c = few-two c.args.arena.now c.make_behind-rest.new.arena c.put-2.new.self c.args.node c.make_behind-rest.result _ _

@@ -1,4 +1,4 @@
-use Rattle.std.proofs.Common.{◌≡◌, ℕ, Some, None, Option, IfSome, IsSome, ◌∙◌, arith}
+use Rattle.std.proofs.Common.{◌≡◌, ℕ, Some, None, Option, IfSome, ◌∙◌, arith}
 use Rattle.std.specs.Option.{IsSomeAnd}
 use Rattle.std.proofs.lemmas.Grind.{common_steps}
 use Rattle.node_arena.specs.Arenas.{ArenaState, RunState, ChangesRun}

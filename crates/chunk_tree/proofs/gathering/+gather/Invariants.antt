@@ -1,4 +1,4 @@
 use Rattle.chunk_tree.proofs.gathering.+gather.Given as goal
 
 abbrev pub decreases-gather : goal.decreases-gather
-decreases-gather l = l.room
+decreases-gather l = l.levels

@@ -26,7 +26,7 @@ returns-in-None g c =
     (c.find-here.ensures.finds c.requires.tree.0
     (chunks-of c.args.kinds.now c.args.arena.now c.args.elem c.args.node c.requires.tree.0 c.requires.tree.1 c.requires.two_links))
     c.requires.serves in
-    let cheap : Cheap c.args.arena.now c.settle.new.arena c.settle.result c.args.steps.now c.settle.new.steps =
+    let cheap : Cheap c.args.arena.now c.settle.new.arena c.args.steps.now c.settle.new.steps =
     settle-cheap c.args.kinds.now c.args.arena.now c.settle.new.arena c.args.elem c.find-here.result.0 c.find-here.result.2 c.args.steps.now c.settle.new.steps
     c.settle.result there c.settle.ensures.settles in
     record {
@@ -37,12 +37,12 @@ returns-in-None g c =
           c.find-here.result.1 c.in-None.is
           (c.find-here.ensures.finds t (chunks-of c.args.kinds.now c.args.arena.now c.args.elem c.args.node t h c.requires.two_links)) c.settle.result
           c.settle.ensures.settles;
-      told = cheap.told;
       few = cheap.few;
       spare = cheap.spare;
       steps = cheap.steps;
       runs = cheap.runs;
       most = cheap.most;
+      places = cheap.places;
     }
 
 pub returns-in-Some : goal.returns-in-Some
@@ -52,7 +52,7 @@ returns-in-Some g c =
     (c.find-here.ensures.finds c.requires.tree.0
     (chunks-of c.args.kinds.now c.args.arena.now c.args.elem c.args.node c.requires.tree.0 c.requires.tree.1 c.requires.two_links))
     c.requires.serves in
-    let cheap : Cheap c.args.arena.now c.put_beside.new.arena c.put_beside.result c.args.steps.now c.put_beside.new.steps =
+    let cheap : Cheap c.args.arena.now c.put_beside.new.arena c.args.steps.now c.put_beside.new.steps =
     beside-cheap c.args.kinds.now c.args.arena.now c.put_beside.new.arena c.args.elem c.find-here.result.0 c.find-here.result.2
     c.args.steps.now c.put_beside.new.steps
     c.in-Some.side c.put_beside.result there
@@ -65,10 +65,10 @@ returns-in-Some g c =
           c.find-here.result.1 c.in-Some.side c.in-Some.is
           (c.find-here.ensures.finds t (chunks-of c.args.kinds.now c.args.arena.now c.args.elem c.args.node t h c.requires.two_links)) c.put_beside.result
           c.put_beside.ensures.goes;
-      told = cheap.told;
       few = cheap.few;
       spare = cheap.spare;
       steps = cheap.steps;
       runs = cheap.runs;
       most = cheap.most;
+      places = cheap.places;
     }

@@ -36,7 +36,7 @@ returns-then-len-hi g c =
           room = omega (arith, c.if-len-hi.true);
           puts = subst (λ r. ChangesNode c.args.arena.now c.insert.new.self c.args.here (Some (record k.value { run = r }))) put ch;
         },
-        (record { spare = omega (arith, c.insert.ensures.spare); runs = ch.runs; most = ch.node.most }, c.insert.ensures.steps),
+        (record { spare = omega (arith, c.insert.ensures.spare); runs = ch.runs; most = ch.node.most; places = ch.node.places }, c.insert.ensures.steps),
         refl,
       ));
     }

@@ -1,8 +1,9 @@
-use Rattle.std.proofs.Common.{◌≡◌, ◌<◌, ◌≤◌, ◌+◌, ◌-◌, ◌/◌, ◌∷◌, [], length, take, drop, Some, IsSome, IfSome, refl, sym, ◌∙◌, subst, arith}
+use Rattle.std.proofs.Common.{◌≡◌, ◌<◌, ◌≤◌, ◌+◌, ◌-◌, ◌/◌, ◌∷◌, [], length, take, drop, Some, IsSome, IfSome, refl, sym, subst, arith}
 use Rattle.std.proofs.lemmas.Grind.{common_steps}
 use Rattle.node_arena.specs.Arenas.{node_at, ChangesNode}
 use Rattle.chunk_tree.specs.Relinking.{IsLinked}
-use Rattle.chunk_tree.proofs.Halves.{halved, mid-some, linked-both, none-linked, take-short, links-rest}
+use Rattle.chunk_tree.proofs.Halves.{halved, mid-some, linked-both, none-linked, take-short}
+use Rattle.chunk_tree.proofs.Kept.{relinked-then, relinked-links}
 use Rattle.chunk_tree.proofs.linking.+link_up.Goals as goal
 
 pub returns-then-is_empty-clause-linked : goal.returns-then-is_empty-clause-linked
@@ -27,7 +28,7 @@ link_up-post-requires g m c κs within =
     let short : length (take (length c.args.ids.now - (length c.args.ids.now / 2 + 1)) rest) ≤ length c.args.ids.now -
     (length c.args.ids.now / 2 + 1) = take-short (length c.args.ids.now - (length c.args.ids.now / 2 + 1)) rest in
     let less : length (take (length c.args.ids.now - (length c.args.ids.now / 2 + 1)) rest) < m = omega (arith, d, some, short) in
-    let most = c.link_up-pre.ensures.spends.most in
+    let most = c.link_up-pre.ensures.rest.most in
     (less, (within, ((h.ys, h.upper _ l.keeps), omega (arith, c.requires.links))))
 
 pub set_links-requires-clause-there : goal.set_links-requires-clause-there
@@ -54,8 +55,8 @@ returns-clause-linked g m c = λ cs laid.
     (linked-both c.args.arena.now c.link_up-pre.new.arena n c.args.ids.now cs
     (length c.args.ids.now / 2) r c.link_up-pre.result c.link_up-post.result b h l u ch)
 
-pub returns-clause-spends : goal.returns-clause-spends
-returns-clause-spends g m c =
+pub returns-clause-rest : goal.returns-clause-rest
+returns-clause-rest g m c =
     let some : 0 < length c.args.ids.now = grind (arith, common_steps) in
     let r = c.index-ids-mid.result in
     let h = halved c.args.arena.now c.args.ids.now c.requires.laid.0 (length c.args.ids.now / 2) r refl some c.requires.laid.1 in
@@ -63,12 +64,7 @@ returns-clause-spends g m c =
     let u = c.link_up-post.ensures.linked h.ys (h.upper _ l.keeps) in
     let there = subst (λ i. IsSome (node_at c.link_up-post.new.arena i)) (sym c.index-ids-mid.is)
     (mid-some _ _ _ c.args.ids.now c.requires.laid.0 _ r _ _ h l u) in
-    let rest = links-rest c.link_up-post.new.arena c.set_links.new.self r (node_at c.link_up-post.new.arena r)
-    (λ v. record v { links = c.link_up-pre.result ∷ c.link_up-post.result ∷ [] }) there c.set_links.ensures.node in
-    let s1 = c.link_up-pre.ensures.spends in
-    let s2 = c.link_up-post.ensures.spends in
-    record {
-      spare = omega (arith, s1.spare, s2.spare, c.set_links.ensures.spare);
-      runs = rest.0 ∙ s2.runs ∙ s1.runs;
-      most = rest.1 ∙ s2.most ∙ s1.most;
-    }
+    relinked-then c.args.arena.now c.link_up-pre.new.arena c.set_links.new.self c.link_up-pre.ensures.rest
+    (relinked-then c.link_up-pre.new.arena c.link_up-post.new.arena c.set_links.new.self c.link_up-post.ensures.rest
+    (relinked-links c.link_up-post.new.arena c.set_links.new.self r (c.link_up-pre.result ∷ c.link_up-post.result ∷ []) there c.set_links.ensures.node
+    c.set_links.ensures.spare))

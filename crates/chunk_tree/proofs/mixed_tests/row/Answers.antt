@@ -1,7 +1,6 @@
 use Rattle.std.proofs.Common.{◌≡◌, ◌+◌, ◌-◌, refl, ◌∙◌, arith, subst, sym}
 use Rattle.node_arena.specs.declared.elements.Top.TheVariants as tops
-use Rattle.node_arena.specs.Structures.{Tree}
-use Rattle.chunk_tree.specs.Balancing.{Holds}
+use Rattle.node_arena.specs.Structures.{Tree, IsStructure}
 use Rattle.chunk_tree.specs.RowTrials.{IsRow}
 use Rattle.chunk_tree.proofs.RowTrialLemmas.{row-none, row-more, row-holds}
 use Rattle.chunk_tree.proofs.mixed_tests.row.Goals as goal
@@ -33,7 +32,7 @@ pub returns-clause-holds : goal.returns-clause-holds
 returns-clause-holds g c = λ s h.
     let i = c.back.invariant in
     let one : c.back.from ≡ 1 = omega (arith, c.back-test.false, i.some) in
-    subst (λ n. (t : Tree) × Holds s 0 c.head-root.new.arena (record { top = tops.Node c.head-root.result; len = n; spine = c.args.count }) t)
+    subst (λ n. (t : Tree) × IsStructure s 0 c.head-root.new.arena (record { top = tops.Node c.head-root.result; len = n; spine = c.args.count }) t)
     (sym c.from-2.ensures)
     (row-holds s c.args.chained c.head-root.new.arena c.head-root.result c.args.count h
     (c.head-root.ensures.row s c.args.count h (subst (λ n. IsRow s 1 c.back.arena c.back.behind n c.args.count) one (i.row s h))) c.requires.low)

@@ -6,7 +6,7 @@ use Rattle.chunk_tree.proofs.numbering.numbers.Given as goal
 abbrev pub invariant-levels : goal.invariant-levels
 invariant-levels l = record {
   within : l.seen ≤ length l.ids.items;
-  listed : (t : Trees) → HangsAt l.arena l.fn.root l.fn.most t → Lists l.arena t l.fn.most (take l.seen l.ids.items) (drop l.seen l.ids.items);
+  listed : (t : Trees) → HangsAt l.arena l.fn.root l.fn.most t → Lists l.arena t (take l.seen l.ids.items) (drop l.seen l.ids.items);
 }
 
 abbrev pub decreases-levels : goal.decreases-levels

@@ -40,7 +40,7 @@ returns-clause-ok g c = λ t holds.
     (sym c.top_at.ensures.value)
     (anew c.args.kinds.now c.args.kind c.args.arena.now c.args.top t c.requires.sound c.requires.one_kind holds c.link_up-root.new.arena
     c.link_up-root.result c.digits.result
-    c.link_up-root.ensures.spends.runs c.digits.ensures.above c.digits.ensures.least c.digits.ensures.few
+    c.link_up-root.ensures.rest.runs c.digits.ensures.above c.digits.ensures.least c.digits.ensures.few
     (c.link_up-root.ensures.linked (cells (links_of t))
     (laid c.args.kinds.now c.args.kind c.args.arena.now c.args.top t c.requires.sound c.requires.one_kind holds c.deref.result.now ids)))
 

@@ -9,5 +9,5 @@ returns g c = record {
       c.insert-step.new.arena _ c.elem.result c.args.at c.insert-step.result c.args.steps.now c.insert-step.new.steps c.elem.ensures.at c.requires.free
       c.requires.within c.requires.more c.requires.low c.insert-step.ensures.left c.insert-step.ensures.runs
       c.insert-step.ensures.most c.insert-step.ensures.spare
-      (ap (λ n. record { top = tops.Node c.args.root; len = c.args.top.len + 1; spine = n }) c.raised.ensures.value);
+      (ap (λ n. record { top = tops.Node c.args.root; len = c.args.top.len + 1; spine = n }) c.spine_after.ensures.value);
 }

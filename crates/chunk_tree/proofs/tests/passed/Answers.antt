@@ -35,4 +35,4 @@ write_run-requires g c =
     subst (λ s. CanPutIn s c.make-root.new.self c.elem-3.result c.make-root.result t) (sym c.mixed-kinds.ensures.kinds)
     (can-put-alone mixed_kinds c.make-root.new.self c.elem-3.result c.make-root.result 1 2 run mixed-sound refl (omega arith) (omega arith) (low, tt)
     (isnt_5, (isnt_9, tt)) c.make-root.ensures.node.node.changed) in
-    record { there = subst IsSome (sym (c.in-Pass.ensures.left t can).there) refl }
+    record { there = subst IsSome (sym (c.in-Pass.ensures.left t can).on.there) refl }

@@ -18,7 +18,7 @@ returns-in-Node-clause-walk g c = λ t h.
     c.requires.low c.raised.ensures.none c.raised.ensures.value in
     let both = put-linked c.args.kinds.now c.args.kind c.args.arena.now c.put_in_linked-deep.new.arena c.args.elem c.args.old.now c.longer.result
     c.in-Node.node q.0 c.put_in_linked-deep.result c.put_in_linked-deep.ensures.runs q.1 q.2 q.3 c.in-Node.is
-    (c.put_in_linked-deep.ensures.done (links_of q.0) can.0) c.put_in_linked-deep.ensures.told (ap (λ v. v.top) is) (ap (λ v. v.len) is) raise in
+    (c.put_in_linked-deep.ensures.done (links_of q.0) can.0) (ap (λ v. v.top) is) (ap (λ v. v.len) is) raise in
     subst (λ v. IsPutIn c.args.kinds.now c.args.kind c.args.arena.now c.put_in_linked-deep.new.arena c.args.elem v c.longer.result)
     (sym (tree_unique c.args.kinds.now c.args.arena.now c.args.old.now t q.0 h q.1)) both.0
 
@@ -31,7 +31,7 @@ returns-in-Node-clause-spine g c =
     c.requires.low c.raised.ensures.none c.raised.ensures.value in
     let both = put-linked c.args.kinds.now c.args.kind c.args.arena.now c.put_in_linked-deep.new.arena c.args.elem c.args.old.now c.longer.result
     c.in-Node.node q.0 c.put_in_linked-deep.result c.put_in_linked-deep.ensures.runs q.1 q.2 q.3 c.in-Node.is
-    (c.put_in_linked-deep.ensures.done (links_of q.0) can.0) c.put_in_linked-deep.ensures.told (ap (λ v. v.top) is) (ap (λ v. v.len) is) raise in
+    (c.put_in_linked-deep.ensures.done (links_of q.0) can.0) (ap (λ v. v.top) is) (ap (λ v. v.len) is) raise in
     both.1
 
 pub returns-in_default-clause-walk : goal.returns-in_default-clause-walk

@@ -1,13 +1,13 @@
-use Rattle.std.proofs.Common.{◌≡◌, ◌≢◌, ◌≤◌, ◌<◌, ◌+◌, ◌^◌, length, IfSome, Some, None, IsSome, refl, ap, ◌∙◌, sym, subst, arith}
+use Rattle.std.proofs.Common.{◌≡◌, ◌≢◌, ◌≤◌, ◌<◌, ◌+◌, ◌^◌, length, IfSome, Some, IsSome, refl, ap, ◌∙◌, sym, subst, arith}
 use Rattle.node_arena.specs.declared.kinds.Shape.TheVariants.{Woven}
 use Rattle.node_arena.specs.Arenas.{node_at}
 use Rattle.node_arena.specs.Insertions.{DifferInFew}
 use Rattle.node_arena.specs.Kinds.{kind_at, shape_at}
-use Rattle.node_arena.specs.Passing.{deeper, IsDone, PushesDown}
+use Rattle.node_arena.specs.Passing.{deeper, IsDone}
 use Rattle.node_arena.specs.Walks.{walk}
 use Rattle.insert_gen.specs.Below.{link_in, own_depth, CanTake, Relinks}
 use Rattle.insert_gen.proofs.BelowLemmas.{few-counted, hook-passed, CanTake-hook, HasLinkAt-hook, IsLinked-hook, alone-hook, IsDone-woven, IsDone-empty}
-use Rattle.insert_gen.proofs.BelowLemmas.{CanPutIn-hook, linked-hook, IsDone-linked, link-read, CanPutIn-unique, deep-low, deeper-none}
+use Rattle.insert_gen.proofs.BelowLemmas.{CanPutIn-hook, linked-hook, IsDone-linked, link-read, CanPutIn-unique, deep-low}
 use Rattle.insert_gen.proofs.BelowLemmas.{HasSpareForAll-passed, spare-passed}
 use Rattle.insert_gen.proofs.passing.+put_in_linked.Goals as goal
 
@@ -15,13 +15,13 @@ pub kind-requires : goal.kind-requires
 kind-requires g t c =
     let q = c.requires.tree in
     let p = c.in-Pass.ensures.left q.0 q.1 in
-    record { there = subst IsSome (sym p.there) refl }
+    record { there = subst IsSome (sym p.on.there) refl }
 
 pub link-requires : goal.link-requires
 link-requires g t c =
     let q = c.requires.tree in
     let p = c.in-Pass.ensures.left q.0 q.1 in
-    record { there = subst IsSome (sym p.there) refl }
+    record { there = subst IsSome (sym p.on.there) refl }
 
 pub put_in_woven-requires-clause-there : goal.put_in_woven-requires-clause-there
 put_in_woven-requires-clause-there g t c =
@@ -47,21 +47,21 @@ put_in_woven-requires-clause-tree g t c =
     let weaves = c.is_woven.ensures.value.0 c.if-is_woven.true in
     let few : length (walk c.args.kinds.now q.0) ≤ 4294967295 = few-counted (length (walk c.args.kinds.now q.0)) c.args.room q.2 c.ranges.room.fits in
     let take = subst (λ es. CanTake c.args.kinds.now c.hook_at-hook.result.kind c.step_at.new.arena
-    (link_in (node_at c.step_at.new.arena c.in-Pass.passer) c.hook_at-hook.result.place) es p.below) (sym c.as_slice.ensures.value)
+    (link_in (node_at c.step_at.new.arena c.in-Pass.passer) c.hook_at-hook.result.place) es p.on.below) (sym c.as_slice.ensures.value)
     (CanTake-hook c.args.kinds.now c.args.arena.now c.step_at.new.arena c.args.elem.now q.0 c.in-Pass.passer c.in-Pass.side c.in-Pass.elems.items
     c.in-Pass.above c.args.steps.now
     c.step_at.new.steps p
     c.hook_at-hook.result.place c.hook_at-hook.result.kind h few) in
     let count : length c.as_slice.result.now ≡ length c.in-Pass.elems.items = ap length c.as_slice.ensures.value in
-    let counted = p.counted in
-    let nine : length c.as_slice.result.now ≤ 9 = c.as_slice.ensures.fits in
+    let counted = p.can.counted in
+    let eight : length c.as_slice.result.now ≤ 8 = c.as_slice.ensures.fits in
     let enough = c.requires.spare in
     let same = p.spare in (
-      p.below,
+      p.on.below,
       take,
-      p.away,
+      p.on.away,
       HasSpareForAll-passed c.args.kinds.now c.hook_at-hook.result.kind (length c.as_slice.result.now)
-          (length c.as_slice.result.now + length (walk c.args.kinds.now p.below)) c.args.room enough.digits c.step_at.new.arena.nodes.spare weaves nine
+          (length c.as_slice.result.now + length (walk c.args.kinds.now p.on.below)) c.args.room enough.digits c.step_at.new.arena.nodes.spare weaves eight
           (omega (arith, count, counted, q.2)) enough.more (omega (arith, enough.room, same)),
     )
 
@@ -76,16 +76,16 @@ returns-then-is_woven-clause-done g t c = λ u can.
     let weaves = c.is_woven.ensures.value.0 c.if-is_woven.true in
     let few : length (walk c.args.kinds.now q.0) ≤ 4294967295 = few-counted (length (walk c.args.kinds.now q.0)) c.args.room q.2 c.ranges.room.fits in
     let take = subst (λ es. CanTake c.args.kinds.now c.hook_at-hook.result.kind c.step_at.new.arena
-    (link_in (node_at c.step_at.new.arena c.in-Pass.passer) c.hook_at-hook.result.place) es p.below) (sym c.as_slice.ensures.value)
+    (link_in (node_at c.step_at.new.arena c.in-Pass.passer) c.hook_at-hook.result.place) es p.on.below) (sym c.as_slice.ensures.value)
     (CanTake-hook c.args.kinds.now c.args.arena.now c.step_at.new.arena c.args.elem.now q.0 c.in-Pass.passer c.in-Pass.side c.in-Pass.elems.items
     c.in-Pass.above c.args.steps.now
     c.step_at.new.steps p
     c.hook_at-hook.result.place c.hook_at-hook.result.kind h few) in
-    let put = c.put_in_woven.ensures.relinks p.below take p.away in
+    let put = c.put_in_woven.ensures.relinks p.on.below take p.on.away in
     let relinks : Relinks c.args.kinds.now c.hook_at-hook.result.kind c.step_at.new.arena c.put_in_woven.new.arena c.in-Pass.passer
-    c.hook_at-hook.result.place c.in-Pass.elems.items p.below =
+    c.hook_at-hook.result.place c.in-Pass.elems.items p.on.below =
     subst (λ es. Relinks c.args.kinds.now c.hook_at-hook.result.kind c.step_at.new.arena c.put_in_woven.new.arena c.in-Pass.passer
-    c.hook_at-hook.result.place es p.below) c.as_slice.ensures.value put in
+    c.hook_at-hook.result.place es p.on.below) c.as_slice.ensures.value put in
     let same : c.deeper.result ≡ deeper c.in-Pass.above (Some 0) = c.deeper.ensures.value in
     let whole : IsDone c.args.kinds.now c.args.arena.now c.put_in_woven.new.arena c.args.elem.now q.0 (deeper c.in-Pass.above (Some 0)) =
     IsDone-woven c.args.kinds.now c.args.arena.now c.step_at.new.arena c.args.elem.now q.0 c.in-Pass.passer c.in-Pass.side c.in-Pass.elems.items
@@ -107,19 +107,19 @@ returns-then-is_woven-clause-spare g t c = λ d less.
     let weaves = c.is_woven.ensures.value.0 c.if-is_woven.true in
     let few : length (walk c.args.kinds.now q.0) ≤ 4294967295 = few-counted (length (walk c.args.kinds.now q.0)) c.args.room q.2 c.ranges.room.fits in
     let take = subst (λ es. CanTake c.args.kinds.now c.hook_at-hook.result.kind c.step_at.new.arena
-    (link_in (node_at c.step_at.new.arena c.in-Pass.passer) c.hook_at-hook.result.place) es p.below) (sym c.as_slice.ensures.value)
+    (link_in (node_at c.step_at.new.arena c.in-Pass.passer) c.hook_at-hook.result.place) es p.on.below) (sym c.as_slice.ensures.value)
     (CanTake-hook c.args.kinds.now c.args.arena.now c.step_at.new.arena c.args.elem.now q.0 c.in-Pass.passer c.in-Pass.side c.in-Pass.elems.items
     c.in-Pass.above c.args.steps.now
     c.step_at.new.steps p
     c.hook_at-hook.result.place c.hook_at-hook.result.kind h few) in
     let count : length c.as_slice.result.now ≡ length c.in-Pass.elems.items = ap length c.as_slice.ensures.value in
-    let counted = p.counted in
-    let nine : length c.as_slice.result.now ≤ 9 = c.as_slice.ensures.fits in
+    let counted = p.can.counted in
+    let eight : length c.as_slice.result.now ≤ 8 = c.as_slice.ensures.fits in
     let same = p.spare in
-    let all : length c.as_slice.result.now + length (walk c.args.kinds.now p.below) < 2 ^ d = omega (arith, count, counted, q.2, less) in
-    let fall = c.put_in_woven.ensures.spare p.below take d all in
+    let all : length c.as_slice.result.now + length (walk c.args.kinds.now p.on.below) < 2 ^ d = omega (arith, count, counted, q.2, less) in
+    let fall = c.put_in_woven.ensures.spare p.on.below take d all in
     spare-passed c.args.kinds.now c.hook_at-hook.result.kind (length c.as_slice.result.now) d c.args.arena.now.nodes.spare
-    c.put_in_woven.new.arena.nodes.spare weaves nine (omega (arith, fall, same))
+    c.put_in_woven.new.arena.nodes.spare weaves eight (omega (arith, fall, same))
 
 pub overflow_sub-room : goal.overflow_sub-room
 overflow_sub-room g t c =
@@ -134,7 +134,7 @@ overflow_sub-room g t c =
     c.in-Pass.passer c.in-Pass.side c.in-Pass.elems.items c.in-Pass.above c.args.steps.now
     c.step_at.new.steps p
     c.hook_at-hook.result.place c.hook_at-hook.result.kind h other).1 in
-    let counted = p.counted in
+    let counted = p.can.counted in
     omega (arith, one, counted, q.2)
 
 pub put_in_linked-deep-requires : goal.put_in_linked-deep-requires
@@ -156,7 +156,7 @@ put_in_linked-deep-requires g t c κs within =
     c.in-Pass.passer c.in-Pass.side c.in-Pass.elems.items c.in-Pass.above c.args.steps.now
     c.step_at.new.steps p
     c.hook_at-hook.result.place c.hook_at-hook.result.kind h other).1 in
-    let counted = p.counted in
+    let counted = p.can.counted in
     let low = q.2 in
     let d = c.decreases in
     let enough = c.requires.spare in
@@ -171,7 +171,7 @@ put_in_linked-deep-requires g t c κs within =
             (λ n. subst (λ v. (kind_at c.args.kinds.now n).hi ≤ v) (sym most) (c.requires.serves n)),
             (
               (
-                p.below,
+                p.on.below,
                 CanPutIn-hook c.args.kinds.now c.args.arena.now c.step_at.new.arena c.args.elem.now q.0 c.in-Pass.passer c.in-Pass.side
                     c.in-Pass.elems.items c.in-Pass.above c.args.steps.now
                     c.step_at.new.steps p
@@ -302,24 +302,6 @@ returns-in-Some-clause-done g t c = λ u can.
     subst (λ v. IsDone c.args.kinds.now c.args.arena.now c.put_in_linked-deep.new.arena c.args.elem.now v c.deeper-in-Some.result)
     (CanPutIn-unique c.args.kinds.now c.args.arena.now c.args.elem.now c.args.node q.0 u q.1 can)
     (subst (λ o. IsDone c.args.kinds.now c.args.arena.now c.put_in_linked-deep.new.arena c.args.elem.now q.0 o) (sym same) whole)
-
-pub returns-in-Some-clause-told : goal.returns-in-Some-clause-told
-returns-in-Some-clause-told g t c = λ none.
-    let q = c.requires.tree in
-    let p = c.in-Pass.ensures.left q.0 q.1 in
-    let h = hook-passed c.args.kinds.now c.args.arena.now c.step_at.new.arena c.args.elem.now q.0 c.in-Pass.passer c.in-Pass.side c.in-Pass.elems.items
-    c.in-Pass.above c.args.steps.now
-    c.step_at.new.steps p c.kind.result c.hook_at-hook.result.place c.hook_at-hook.result.kind
-    c.kind.ensures.value c.hook_at-hook.ensures.value in
-    let other : shape_at c.args.kinds.now c.hook_at-hook.result.kind ≢ Woven = λ e. let f = c.is_woven.ensures.value.1 e in let g = c.if-is_woven.false in cc in
-    let same = (alone-hook c.args.kinds.now c.args.arena.now c.step_at.new.arena c.args.elem.now q.0 c.in-Pass.passer c.in-Pass.side c.in-Pass.elems.items
-    c.in-Pass.above c.args.steps.now
-    c.step_at.new.steps p
-    c.hook_at-hook.result.place c.hook_at-hook.result.kind h other).0 in
-    let deep : c.put_in_linked-deep.result ≡ None =
-    deeper-none c.args.arena.now c.step_at.new.arena c.in-Pass.passer c.in-Pass.side c.in-Pass.elems c.in-Pass.above c.put_in_linked-deep.result
-    c.in-Pass.ensures.told (sym c.deeper-in-Some.ensures.value ∙ none) in
-    subst (λ v. PushesDown v c.put_in_linked-deep.new.arena) same (c.put_in_linked-deep.ensures.told deep)
 
 pub returns-in-Some-clause-few : goal.returns-in-Some-clause-few
 returns-in-Some-clause-few g t c = λ none.

@@ -11,8 +11,8 @@ look_up-requires-clause-conforms g c =
     read-grown (kinds_of c.args.code.now) c.kinds-kinds.result.now (root_of c.args.code.now) c.args.arena.now c.args.top.now c.args.free.now
     c.kinds-kinds.ensures.value c.requires.grown
 
-pub replace-requires : goal.replace-requires
-replace-requires g c = record {
+pub replace-answer-requires : goal.replace-answer-requires
+replace-answer-requires g c = record {
   tree =
       let q = c.requires.grown in (
         q.tree,
@@ -29,7 +29,7 @@ look_up-new-requires-clause-conforms g c =
     let s = kinds_of c.args.code.now in
     let k = root_of c.args.code.now in
     let a = c.args.arena.now in
-    let b = c.replace.new.arena in
+    let b = c.replace-answer.new.arena in
     let x : Elem = record { at = c.args.at; held = Number 7 } in
-    let walk = subst (λ st. IsReplacedIn s k a b x q.tree st) c.replace.ensures.value (c.replace.ensures.walk q.tree q.stands) in
+    let walk = subst (λ st. IsReplacedIn s k a b x q.tree st) c.replace-answer.ensures.value (c.replace-answer.ensures.walk q.tree q.stands) in
     read-replaced s c.kinds-kinds.result.now k a b x c.args.top.now q.tree c.kinds-kinds.ensures.value walk

@@ -4,5 +4,5 @@ use Rattle.insert_gen.proofs.tests.put.Goals as goal
 pub returns : goal.returns
 returns g c = record {
   grown = grown-put _ _ _ _ _ _ _ c.elem.result c.args.at c.elem.ensures.at c.if-place-free.false c.prepare.ensures.grown
-      (c.insert.ensures.walk c.prepare.ensures.grown.tree c.prepare.ensures.grown.stands) c.insert.ensures.most;
+      (c.insert-new.ensures.walk c.prepare.ensures.grown.tree c.prepare.ensures.grown.stands) c.insert-new.ensures.most;
 }
